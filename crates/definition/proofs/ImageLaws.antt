@@ -1,0 +1,106 @@
+-- Laws of stores, over any shape and any pen: they keep the image's length, and may be made in any order.
+use Prim.Native.Nat.{ℕ, _<_}
+use mathlib.Core.Bool.{Bool, true, false}
+use mathlib.Core.Path.{_≡_, refl, sym, ap, _∙_}
+use mathlib.Core.List.{List, [], _∷_, _++_, reverse, reverse-cons, append-nil}
+use native.Mathlib.Omega.{arith}
+use native.Mathlib.Decide.{ℕ-discrete, decLt}
+use lib.ListN.{length, getD, set, length-set}
+use lib.Seq.{getD-set-same, getD-set-other, set-out, set-set, set-comm}
+use lib.IntN.{natAbs}
+use Rattle.definition.specs.Choice.{pick}
+use Rattle.definition.specs.Image.{Shape, Pen, inField, inside, byteOf, digitOf, digit, putDigit, digitAt, store, stores}
+use Rattle.definition.specs.declared.Pixel.{Pixel}
+use Rattle.definition.proofs.Digits.{digit-other, put-either}
+
+pub store-length : (s : Shape) (pen : Pen) (im : List ℕ) (x y : ℕ) → length (store s pen im x y) ≡ length im
+unfolding store
+store-length s pen im x y = simp length-set
+
+pub stores-length : (s : Shape) (pen : Pen) (im : List ℕ) (ps : List Pixel) → length (stores s pen im ps) ≡ length im
+unfolding stores
+stores-length s pen im [] = refl
+stores-length s pen im (p ∷ ps) = stores-length s pen (store s pen im (natAbs (p .x .0)) (natAbs (p .y .0))) ps ∙ store-length s pen im (natAbs (p .x .0)) (natAbs (p .y .0))
+
+pub stores-append : (s : Shape) (pen : Pen) (im : List ℕ) (ps qs : List Pixel) → stores s pen im (ps ++ qs) ≡ stores s pen (stores s pen im ps) qs
+unfolding stores
+stores-append s pen im [] qs = refl
+stores-append s pen im (p ∷ ps) qs = stores-append s pen (store s pen im (natAbs (p .x .0)) (natAbs (p .y .0))) ps qs
+
+-- ---- the order of stores
+-- a byte after a store at its digit k
+abbrev inked : ℕ → Pen → ℕ → ℕ → ℕ
+inked b pen k byte = putDigit b k byte (pen (digit b k byte))
+
+-- a byte after stores at its digits k and l
+either-digit : (b : ℕ) (pen : Pen) → ((v : ℕ) → pen v < b) → (k l byte : ℕ) → inked b pen l (inked b pen k byte) ≡ inked b pen k (inked b pen l byte)
+either-digit b pen low k l byte = go (ℕ-discrete k l)
+  where
+    go : Dec (k ≡ l) → inked b pen l (inked b pen k byte) ≡ inked b pen k (inked b pen l byte)
+    go (yes e) = rw e
+    go (no n) =
+        let v = pen (digit b k byte) in
+        let w = pen (digit b l byte) in
+        ap (λ (t : ℕ). putDigit b l (inked b pen k byte) (pen t)) (digit-other b l k byte v (low _) (λ e. n (sym e)))
+        ∙ put-either b k l byte v w (low _) (low _) n
+        ∙ sym (ap (λ (t : ℕ). putDigit b k (inked b pen l byte) (pen t)) (digit-other b k l byte w (low _) n))
+
+-- an image after two bytes are changed, by f and h, where these may be applied in either order
+either-byte : (f h : ℕ → ℕ) → ((n : ℕ) → h (f n) ≡ f (h n)) → (im : List ℕ) (i j : ℕ)
+    → set (set im i (f (getD im i 0))) j (h (getD (set im i (f (getD im i 0))) j 0)) ≡ set (set im j (h (getD im j 0))) i (f (getD (set im j (h (getD im j 0))) i 0))
+either-byte f h alike im i j = go (ℕ-discrete i j) (decLt i (length im))
+  where
+    go : Dec (i ≡ j) → Dec (i < length im)
+        → set (set im i (f (getD im i 0))) j (h (getD (set im i (f (getD im i 0))) j 0)) ≡ set (set im j (h (getD im j 0))) i (f (getD (set im j (h (getD im j 0))) i 0))
+    go (no n) d =
+        rw (getD-set-other im i j (f (getD im i 0)) 0 (λ e. n (sym e)), getD-set-other im j i (h (getD im j 0)) 0 n)
+        (set-comm im i j (f (getD im i 0)) (h (getD im j 0)) n)
+    go (yes e) (yes l) =
+        rw (← e, getD-set-same im i (f (getD im i 0)) 0 l, getD-set-same im i (h (getD im i 0)) 0 l)
+        (set-set im i (f (getD im i 0)) (h (f (getD im i 0))) ∙ ap (set im i) (alike (getD im i 0)) ∙ sym (set-set im i (h (getD im i 0)) (f (h (getD im i 0)))))
+    go (yes e) (no l) = rw (← e) (out _ _ ∙ sym (out _ _))
+      where
+        out : (m n : ℕ) → set (set im i m) i n ≡ im
+        out m n = ap (λ (t : List ℕ). set t i n) (set-out im i m (omega arith)) ∙ set-out im i n (omega arith)
+
+module _ (s : Shape) (pen : Pen) (low : (v : ℕ) → pen v < s .base) where
+  pub either-store : (im : List ℕ) (x y x′ y′ : ℕ) → store s pen (store s pen im x y) x′ y′ ≡ store s pen (store s pen im x′ y′) x y
+  unfolding store digitAt
+  either-store im x y x′ y′ =
+      either-byte (inked (s .base) pen (digitOf s x)) (inked (s .base) pen (digitOf s x′)) (either-digit (s .base) pen low (digitOf s x) (digitOf s x′)) im (byteOf s x y) (byteOf s x′ y′)
+
+  -- a store before others or after them
+  store-late : (im : List ℕ) (x y : ℕ) (ps : List Pixel) → store s pen (stores s pen im ps) x y ≡ stores s pen (store s pen im x y) ps
+  unfolding stores
+  store-late im x y [] = refl
+  store-late im x y (p ∷ ps) =
+      store-late (store s pen im (natAbs (p .x .0)) (natAbs (p .y .0))) x y ps
+      ∙ ap (λ (t : List ℕ). stores s pen t ps) (either-store im (natAbs (p .x .0)) (natAbs (p .y .0)) x y)
+
+  pub stores-reverse : (im : List ℕ) (ps : List Pixel) → stores s pen im (reverse ps) ≡ stores s pen im ps
+  unfolding stores
+  stores-reverse im [] = refl
+  stores-reverse im (p ∷ ps) =
+      ap (stores s pen im) (reverse-cons p ps)
+      ∙ stores-append s pen im (reverse ps) (p ∷ [])
+      ∙ ap (λ (t : List ℕ). store s pen t (natAbs (p .x .0)) (natAbs (p .y .0))) (stores-reverse im ps)
+      ∙ store-late im (natAbs (p .x .0)) (natAbs (p .y .0)) ps
+
+-- ---- the pixels in the field
+pub inside-append : (s : Shape) (ps qs : List Pixel) → inside s (ps ++ qs) ≡ inside s ps ++ inside s qs
+unfolding inside
+inside-append s [] qs = refl
+inside-append s (p ∷ ps) qs = rw (inside-append s ps qs) (go (inField s p))
+  where
+    go : (t : Bool) → pick t (p ∷ (inside s ps ++ inside s qs)) (inside s ps ++ inside s qs) ≡ pick t (p ∷ inside s ps) (inside s ps) ++ inside s qs
+    go true = refl
+    go false = refl
+
+pub inside-reverse : (s : Shape) (ps : List Pixel) → inside s (reverse ps) ≡ reverse (inside s ps)
+unfolding inside
+inside-reverse s [] = refl
+inside-reverse s (p ∷ ps) = ap (inside s) (reverse-cons p ps) ∙ inside-append s (reverse ps) (p ∷ []) ∙ rw (inside-reverse s ps) (go (inField s p))
+  where
+    go : (t : Bool) → reverse (inside s ps) ++ pick t (p ∷ []) [] ≡ reverse (pick t (p ∷ inside s ps) (inside s ps))
+    go true = sym (reverse-cons p (inside s ps))
+    go false = append-nil (reverse (inside s ps))

@@ -1,0 +1,11 @@
+pub mod Opened
+pub mod Worked
+pub mod Layouts
+pub mod Readings
+pub mod Runs
+pub mod Numbers
+pub mod Exactly
+pub mod Plain
+pub mod VectorLaws
+pub mod Digits
+pub mod ImageLaws

@@ -1,0 +1,88 @@
+-- Whole calls, computed.
+use Prim.Native.Nat.{ℕ}
+use mathlib.Core.Bool.{true, false}
+use mathlib.Core.Path.{_≡_, refl}
+use mathlib.Core.List.{List, [], _∷_}
+use lib.ListN.{getD, take, replicate}
+use lib.IntN.{ℤ, pos}
+use Rattle.definition.specs.Image.{square, blank, left, Left}
+use Rattle.definition.specs.Machine.{fresh, withCounter, withWrite, withLatch, withIncrement, withStatus}
+use Rattle.definition.specs.Calls.{plain, given, startCall, runCall, turnedAway, clearCall, readCall}
+use Rattle.definition.specs.Run.{begun, run}
+use Rattle.definition.specs.Plot.{wordsIn, ranLine, refusedLine, plotLine}
+use Rattle.definition.specs.declared.Machine.{Machine}
+use Rattle.definition.specs.declared.Ran.{Ran}
+use Rattle.definition.proofs.Opened.{rules}
+use Rattle.definition.proofs.Worked.{file, inMode, dot}
+
+-- the case that document 01 lists, by its bytes
+abbrev pub listed : List ℕ
+listed = 0x01 ∷ 0x00 ∷ 0x01 ∷ 0x00 ∷ 0x04 ∷ 0x00 ∷ 0x04 ∷ 0x00 ∷ 0x00 ∷ 0x97 ∷ 0x06 ∷ 0x40 ∷ 0x04 ∷ 0x00 ∷ 0x00 ∷ 0xF4 ∷ []
+
+pub plot-listed : plotLine listed ≡ pos 1 ∷ pos 3 ∷ pos 4 ∷ pos 4 ∷ pos 8 ∷ pos 6 ∷ pos 4 ∷ []
+unfolding rules
+plot-listed = refl
+
+-- 19 speaks before the file's doors, and an empty input is a file of no words
+pub plot-refused : (plotLine (2 ∷ []) ∷ plotLine (replicate 65538 0) ∷ plotLine [] ∷ plotLine (2 ∷ 0 ∷ 9 ∷ 0 ∷ []) ∷ [])
+    ≡ refusedLine 19 ∷ refusedLine 19 ∷ refusedLine 12 ∷ refusedLine 13 ∷ []
+unfolding rules
+plot-refused = refl
+
+-- its image: four pixels of value 3, in bytes 0, 128 and 256; read back by the call
+abbrev listedImage : List ℕ
+listedImage = runCall (plain (wordsIn listed)) fresh blank 1000 .image
+
+pub listed-bytes : (getD listedImage 0 9 ∷ getD listedImage 1 9 ∷ getD listedImage 128 9 ∷ getD listedImage 256 9 ∷ getD listedImage 257 9 ∷ []) ≡ 0x03 ∷ 0 ∷ 0x3C ∷ 0xC0 ∷ 0 ∷ []
+unfolding rules
+listed-bytes = refl
+
+pub listed-read : (readCall square listedImage (dot 0 0) .digit ∷ readCall square listedImage (dot 2 1) .digit ∷ readCall square listedImage (dot 3 1) .digit ∷ readCall square listedImage (dot 3 2) .digit ∷ []) ≡ 3 ∷ 3 ∷ 0 ∷ 3 ∷ []
+unfolding rules
+listed-read = refl
+
+-- the program that a manual has typed in by hand: a vector from (0, 0) to units (512, 512), for ever
+abbrev pub typed : List ℕ
+typed = file (0o114000 ∷ 0 ∷ 0 ∷ 0o110000 ∷ 0o041000 ∷ 0o001000 ∷ 0o160000 ∷ 0 ∷ [])
+
+abbrev pub numbers : Left Ran → List ℤ
+numbers l = ranLine (l .result)
+
+pub typed-twice : numbers (runCall (plain typed) fresh blank 10) ≡ pos 0 ∷ pos 10 ∷ pos 16 ∷ pos 514 ∷ pos 0 ∷ pos 512 ∷ pos 512 ∷ []
+unfolding rules
+typed-twice = refl
+
+-- a store replaces its digit, whatever stood there, and leaves the others of its byte: a point of value 1 on bytes that are full
+pub one-digit : take 3 (run (given (plain (file (0o116400 ∷ 0o040012 ∷ 0 ∷ [])))) 2 (begun fresh (replicate 3 255)) .image) ≡ 255 ∷ 0xF7 ∷ 255 ∷ []
+unfolding rules
+one-digit = refl
+
+-- a refused instruction is not counted, earlier ones are, and the counter is at its first word
+pub not-counted : numbers (runCall (plain (file (0o114024 ∷ 0o001050 ∷ 0o000577 ∷ 0o134000 ∷ []))) fresh blank 9) ≡ pos 24 ∷ pos 2 ∷ pos 3 ∷ pos 0 ∷ pos 6 ∷ pos 552 ∷ pos 383 ∷ []
+unfolding rules
+not-counted = refl
+
+pub not-counted-pair : numbers (runCall (plain (file (0o110000 ∷ 0o040100 ∷ 0o100000 ∷ []))) fresh blank 9) ≡ pos 26 ∷ pos 1 ∷ pos 1 ∷ pos 0 ∷ pos 2 ∷ pos 0 ∷ pos 0 ∷ []
+unfolding rules
+not-counted-pair = refl
+
+-- refused at a door, a call leaves all as given; with budget 0 a running machine does too
+pub turned : runCall (plain typed) fresh (0 ∷ []) 1 ≡ turnedAway fresh (0 ∷ []) 11
+unfolding rules
+turned = refl
+
+pub no-budget : runCall (plain typed) fresh blank 0 ≡ turnedAway fresh blank 0
+unfolding rules
+no-budget = refl
+
+-- a start sets the counter and the status and keeps the rest; it takes odd addresses and works from every status
+abbrev worn : Machine
+worn = withStatus (withLatch (withIncrement (withWrite (inMode 5 (pos 7) (pos 9)) false) 63) true) 27
+
+pub started : startCall worn 5 ≡ record { answer = 0; machine = withCounter (withStatus worn 0) 5 }
+unfolding rules
+started = refl
+
+pub cleared : (clearCall (replicate 65536 255) ∷ clearCall (7 ∷ []) ∷ []) ≡ left 0 blank ∷ left 11 (7 ∷ []) ∷ []
+unfolding rules
+cleared = refl

@@ -1,0 +1,82 @@
+-- The calls: the doors of each in their order, and what each answers and leaves.
+use Prim.Native.Nat.{ℕ}
+use mathlib.Core.Bool.{not}
+use mathlib.Core.List.{List, [], _∷_, _++_}
+use lib.ListN.{length}
+use lib.Dec.{eqb, ltb}
+use lib.IntN.{natAbs}
+use Rattle.definition.specs.Choice.{pick, Test, _when_, firstOf, joined}
+use Rattle.definition.specs.Image.{Shape, imageBytes, blank, inField, digitAt, Left, left}
+use Rattle.definition.specs.File.{fileDoors, fetch}
+use Rattle.definition.specs.Machine.{startedAt, machineDoors}
+use Rattle.definition.specs.Step.{Given}
+use Rattle.definition.specs.Run.{nothing, State, begun, run}
+use Rattle.definition.specs.declared.Pixel.{Pixel}
+use Rattle.definition.specs.declared.Machine.{Machine}
+use Rattle.definition.specs.declared.Ran.{Ran}
+use Rattle.definition.specs.declared.Started.{Started}
+use Rattle.definition.specs.declared.Read.{Read}
+
+unfoldable pub imageDoors : List ℕ → List Test
+imageDoors im = 11 when not (eqb (length im) imageBytes) ∷ []
+
+unfoldable pub budgetDoors : ℕ → List Test
+budgetDoors b = 17 when ltb 1000000 b ∷ []
+
+unfoldable pub runningDoors : Machine → List Test
+runningDoors m = 28 when not (eqb (m .status) 0) ∷ []
+
+unfoldable pub fieldDoors : Shape → Pixel → List Test
+fieldDoors s p = 31 when not (inField s p) ∷ []
+
+-- what a run is lent, beside its image; and a file with nothing else
+pub record Lent : Type 0 where
+  pub file : List ℕ
+
+abbrev pub plain : List ℕ → Lent
+plain f = record { file = f }
+
+abbrev pub given : Lent → Given
+given l = record { memory = fetch (l .file) }
+
+unfoldable pub checkCall : List ℕ → ℕ
+checkCall f = firstOf (fileDoors f)
+
+unfoldable pub startCall : Machine → ℕ → Started
+startCall m a =
+    let n = firstOf (machineDoors m) in
+    record { answer = n; machine = pick (eqb n 0) (startedAt m a) m }
+
+-- 11, 12 to 15, 16, 17, 28
+unfoldable pub runDoors : Lent → Machine → List ℕ → ℕ → List Test
+runDoors l m im b = joined (imageDoors im ∷ fileDoors (l .file) ∷ machineDoors m ∷ budgetDoors b ∷ runningDoors m ∷ [])
+
+unfoldable pub runDoor : Lent → Machine → List ℕ → ℕ → ℕ
+runDoor l m im b = firstOf (runDoors l m im b)
+
+-- a run answers its last status
+abbrev pub answered : State → Left Ran
+answered s = left (record { answer = s .machine .status; counts = s .counts; machine = s .machine }) (s .image)
+
+-- a call refused at a door counts nothing and leaves everything as given
+abbrev pub turnedAway : Machine → List ℕ → ℕ → Left Ran
+turnedAway m im n = left (record { answer = n; counts = nothing; machine = m }) im
+
+unfoldable pub runCall : Lent → Machine → List ℕ → ℕ → Left Ran
+runCall l m im b =
+    let ran = answered (run (given l) b (begun m im)) in
+    pick (eqb (runDoor l m im b) 0) ran (turnedAway m im (runDoor l m im b))
+
+abbrev pub stepCall : Lent → Machine → List ℕ → Left Ran
+stepCall l m im = runCall l m im 1
+
+unfoldable pub clearCall : List ℕ → Left ℕ
+clearCall im =
+    let n = firstOf (imageDoors im) in
+    left n (pick (eqb n 0) blank im)
+
+-- a pixel is read by its coordinates, which may be below zero; a refusal reads 0
+unfoldable pub readCall : Shape → List ℕ → Pixel → Read
+readCall s im p =
+    let n = firstOf (imageDoors im ++ fieldDoors s p) in
+    record { answer = n; digit = pick (eqb n 0) (digitAt s im (natAbs (p .x .0)) (natAbs (p .y .0))) 0 }

@@ -1,0 +1,12 @@
+pub mod Choice
+pub mod Units
+pub mod Image
+pub mod File
+pub mod Words
+pub mod Vector
+pub mod Machine
+pub mod Step
+pub mod Run
+pub mod Calls
+pub mod Plot
+pub mod Promises

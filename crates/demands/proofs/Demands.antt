@@ -1,0 +1,297 @@
+-- What the definition guarantees: the customer's three demands, and that every promise allows one outcome. Each theorem stands here with a proof of a
+-- line; the proofs themselves are in the files that it names. The words of the statements are defined in specs/.
+-- Every rule is a function that computes to an answer for every argument: each call ends, whatever it is given.
+use Prim.Native.Nat.{ℕ, suc, _+_, _*_, _≤_, _<_, _%_}
+use mathlib.Core.Bool.{true, false}
+use mathlib.Core.List.{List, [], _∷_, reverse}
+use mathlib.Core.Path.{_≡_, sym, ap, _∙_}
+use mathlib.Core.Logic.{_⊎_, inl, inr, _↔_}
+use native.Mathlib.Omega.{arith}
+use lib.ListN.{length, getD}
+use lib.IntN.{ℤ, pos, natAbs, _+ℤ_, _-ℤ_, _*ℤ_}
+use Rattle.definition.specs.Units.{units}
+use Rattle.definition.specs.Image.{Shape, square, imageBytes, blank, pixelAt, inside, Pen, stores, digitAt, Left, left}
+use Rattle.definition.specs.File.{tag, segments, offset, size, header, segmentOf, placeOf, fetch, numberIn}
+use Rattle.definition.specs.Words.{coordinate}
+use Rattle.definition.specs.Vector.{longer, vector}
+use Rattle.definition.specs.Machine.{startedAt, withStatus, shapeOf, penOf}
+use Rattle.definition.specs.Step.{Given, first, second, refusal, step}
+use Rattle.definition.specs.Run.{State, begun, after, run}
+use Rattle.definition.specs.Calls.{Lent, plain, given, checkCall, startCall, runDoor, turnedAway, runCall, stepCall, clearCall, readCall}
+use Rattle.definition.specs.Plot.{refusedLine, plotLine}
+use Rattle.definition.specs.Promises.{Promise-check, Promise-fresh, Promise-start, Promise-run, Promise-step, Promise-clear, Promise-read}
+use Rattle.definition.specs.declared.Units.{Units}
+use Rattle.definition.specs.declared.Pixel.{Pixel}
+use Rattle.definition.specs.declared.Machine.{Machine}
+use Rattle.definition.specs.declared.Fetched.the-variants.{Word}
+use Rattle.definition.specs.declared.Ran.{Ran}
+use Rattle.definition.specs.declared.Started.{Started}
+use Rattle.definition.specs.declared.Read.{Read}
+use Rattle.demands.specs.Conditions.{Head, Keeps, Accepted, SameHeader, SameWords, InRange, Fits, Open, During, InField, On, NotBuilt, NoMode, Pair, word, more, Begins, Continues, FetchRefused, newX, newY, Stops, LatchIs}
+use Rattle.demands.specs.Ledger.{completed, changes, settled}
+use Rattle.demands.specs.Graphs.{AlongX, AlongY, weeks, shown, Ready, plotted}
+use Rattle.demands.specs.Exact.{exact}
+use Rattle.demands.proofs.Runs as runs
+use Rattle.demands.proofs.Kept as kept
+use Rattle.demands.proofs.Outside as outside
+use Rattle.demands.proofs.FileAnswers as file
+use Rattle.demands.proofs.StepAnswers as steps
+use Rattle.demands.proofs.CallAnswers as calls
+use Rattle.demands.proofs.OtherCalls as others
+use Rattle.demands.proofs.Graphs as graphs
+use Rattle.demands.proofs.Drift as drift
+use Rattle.demands.proofs.Vectors as vectors
+
+-- ==== Demand 1
+
+-- ---- the words outside a file's segments make no difference
+-- the check looks at the length and at the header, and at nothing else
+pub check-reads-the-header : (f g : List ℕ) → SameHeader f g → length f ≡ length g → checkCall f ≡ checkCall g
+check-reads-the-header = outside.same-check
+
+-- two accepted files, of any lengths, with the same header and the same words in their segments: the same run, and the same step
+pub run-reads-the-segments : (f g : List ℕ) → SameWords f g → Accepted f → Accepted g → (m : Machine) (im : List ℕ) (b : ℕ) → runCall (plain f) m im b ≡ runCall (plain g) m im b
+run-reads-the-segments = outside.same-run
+
+pub step-reads-the-segments : (f g : List ℕ) → SameWords f g → Accepted f → Accepted g → (m : Machine) (im : List ℕ) → stepCall (plain f) m im ≡ stepCall (plain g) m im
+step-reads-the-segments f g h p q m im = outside.same-run f g h p q m im 1
+
+-- ---- what a refusal leaves
+-- at a door: the machine and the image as given, and counts of 0
+pub run-turned-away : (l : Lent) (m : Machine) (im : List ℕ) (b : ℕ) → (runDoor l m im b ≡ 0 → ⊥) → runCall l m im b ≡ turnedAway m im (runDoor l m im b)
+run-turned-away = calls.call-shut
+
+pub start-turned-away : (m : Machine) (a : ℕ) → (Fits m → ⊥) → startCall m a ≡ record { answer = 16; machine = m }
+start-turned-away = others.start-shut
+
+pub clear-turned-away : (im : List ℕ) → (length im ≡ imageBytes → ⊥) → clearCall im ≡ left 11 im
+clear-turned-away = others.clear-11
+
+-- of an instruction: no pixel is changed, of the machine only the status, so that the counter is at its first word; and it is not counted
+pub refused-instruction : (g : Given) (s : State) → (refusal g (s .machine) ≡ 0 → ⊥)
+    → after s (step g (s .machine)) ≡ record { machine = withStatus (s .machine) (refusal g (s .machine)); image = s .image; counts = s .counts }
+refused-instruction = runs.refused-only
+
+-- in a run: the k steps before it stand, with their machine, their image and their counts
+pub refused-in-a-run : (l : Lent) (m : Machine) (im : List ℕ) (b n : ℕ) → 21 ≤ n → n ≤ 27 → runCall l m im b .result .answer ≡ n
+    → (k : ℕ) × ((k < b) × ((run (given l) k (begun m im) .counts .steps ≡ k) × (runCall l m im b ≡ calls.refusedAfter n (run (given l) k (begun m im)))))
+refused-in-a-run = calls.run-refused
+
+-- ---- a run keeps the machine in range and the image's length
+pub run-keeps-the-ranges : (g : Given) (b : ℕ) (s : State) → Fits (s .machine) → Fits (run g b s .machine)
+run-keeps-the-ranges = kept.run-fits
+
+pub run-keeps-the-length : (g : Given) (b : ℕ) (s : State) → length (run g b s .image) ≡ length (s .image)
+run-keeps-the-length = kept.run-length
+
+-- ---- every answer exactly when
+module _ (f : List ℕ) where
+  pub check-0 : (checkCall f ≡ 0) ↔ Accepted f
+  check-0 = file.check-0 f
+
+  pub check-12 : (checkCall f ≡ 12) ↔ ((length f < 2) ⊎ ((2 ≤ length f) × ((tag f ≡ 1) × (((1 ≤ segments f) × (segments f ≤ 8)) × (length f < header f)))))
+  check-12 = file.check-12 f
+
+  pub check-13 : (checkCall f ≡ 13) ↔ ((2 ≤ length f) × (tag f ≡ 1 → ⊥))
+  check-13 = file.check-13 f
+
+  pub check-14 : (checkCall f ≡ 14) ↔ ((2 ≤ length f) × ((tag f ≡ 1) × ((segments f ≡ 0) ⊎ (8 < segments f))))
+  check-14 = file.check-14 f
+
+  pub check-15 : (checkCall f ≡ 15) ↔ (Head f × ((i : ℕ) × ((i < segments f) × (Keeps f i → ⊥))))
+  check-15 = file.check-15 f
+
+-- a fetch at an address of a file
+module _ (f : List ℕ) (a : ℕ) where
+  pub fetch-21 : (numberIn (fetch f a) ≡ 21) ↔ (a % 2 ≡ 0 → ⊥)
+  fetch-21 = file.fetch-21 f a
+
+  pub fetch-22 : (numberIn (fetch f a) ≡ 22) ↔ ((a % 2 ≡ 0) × (segments f ≤ segmentOf a))
+  fetch-22 = file.fetch-22 f a
+
+  pub fetch-23 : (numberIn (fetch f a) ≡ 23) ↔ ((a % 2 ≡ 0) × ((segmentOf a < segments f) × (size f (segmentOf a) ≤ placeOf a)))
+  fetch-23 = file.fetch-23 f a
+
+  pub fetch-word : (fetch f a ≡ Word (getD f (offset f (segmentOf a) + placeOf a) 0)) ↔ ((a % 2 ≡ 0) × ((segmentOf a < segments f) × (placeOf a < size f (segmentOf a))))
+  fetch-word = file.fetch-word f a
+
+-- a run
+module _ (l : Lent) (m : Machine) (im : List ℕ) (b : ℕ) where
+  abbrev answer : ℕ
+  answer = runCall l m im b .result .answer
+
+  abbrev g : Given
+  g = given l
+
+  -- in a run whose doors are all open, a step was made from a running machine of which this holds
+  abbrev Ends : (Machine → Type 0) → Type 0
+  Ends Q = Open l m im b × During g b (begun m im) Q
+
+  pub run-0 : (answer ≡ 0) ↔ (Open l m im b × ((run g b (begun m im) .machine .status ≡ 0) × (run g b (begun m im) .counts .steps ≡ b)))
+  run-0 = calls.run-0 l m im b
+
+  pub run-1 : (answer ≡ 1) ↔ Ends (λ m. (numberIn (first g m) ≡ 0) × (Stops (word g m) × LatchIs false m (word g m)))
+  run-1 = calls.run-ended l m im b 1 (λ e. omega arith) (inl (omega arith)) _ (λ m f r. steps.step-stops g m f r false)
+
+  pub run-2 : (answer ≡ 2) ↔ Ends (λ m. (numberIn (first g m) ≡ 0) × (Stops (word g m) × LatchIs true m (word g m)))
+  run-2 = calls.run-ended l m im b 2 (λ e. omega arith) (inl (omega arith)) _ (λ m f r. steps.step-stops g m f r true)
+
+  pub run-11 : (answer ≡ 11) ↔ (length im ≡ imageBytes → ⊥)
+  run-11 = calls.run-11 l m im b
+
+  pub run-12 : (answer ≡ 12) ↔ ((length im ≡ imageBytes) × (checkCall (l .file) ≡ 12))
+  run-12 = calls.run-12 l m im b
+
+  pub run-13 : (answer ≡ 13) ↔ ((length im ≡ imageBytes) × (checkCall (l .file) ≡ 13))
+  run-13 = calls.run-13 l m im b
+
+  pub run-14 : (answer ≡ 14) ↔ ((length im ≡ imageBytes) × (checkCall (l .file) ≡ 14))
+  run-14 = calls.run-14 l m im b
+
+  pub run-15 : (answer ≡ 15) ↔ ((length im ≡ imageBytes) × (checkCall (l .file) ≡ 15))
+  run-15 = calls.run-15 l m im b
+
+  pub run-16 : (answer ≡ 16) ↔ ((length im ≡ imageBytes) × (Accepted (l .file) × (Fits m → ⊥)))
+  run-16 = calls.run-16 l m im b
+
+  pub run-17 : (answer ≡ 17) ↔ ((length im ≡ imageBytes) × (Accepted (l .file) × (Fits m × (1000000 < b))))
+  run-17 = calls.run-17 l m im b
+
+  pub run-28 : (answer ≡ 28) ↔ ((length im ≡ imageBytes) × (Accepted (l .file) × (Fits m × ((b ≤ 1000000) × (m .status ≡ 0 → ⊥)))))
+  run-28 = calls.run-28 l m im b
+
+  pub run-21 : (answer ≡ 21) ↔ Ends (FetchRefused 21 g)
+  run-21 = calls.run-ended l m im b 21 (λ e. omega arith) (inr (omega arith, omega arith)) _ (steps.step-21 g)
+
+  pub run-22 : (answer ≡ 22) ↔ Ends (FetchRefused 22 g)
+  run-22 = calls.run-ended l m im b 22 (λ e. omega arith) (inr (omega arith, omega arith)) _ (steps.step-22 g)
+
+  pub run-23 : (answer ≡ 23) ↔ Ends (FetchRefused 23 g)
+  run-23 = calls.run-ended l m im b 23 (λ e. omega arith) (inr (omega arith, omega arith)) _ (steps.step-23 g)
+
+  pub run-24 : (answer ≡ 24) ↔ Ends (λ m. (numberIn (first g m) ≡ 0) × NotBuilt (word g m))
+  run-24 = calls.run-ended l m im b 24 (λ e. omega arith) (inr (omega arith, omega arith)) _ (steps.step-24 g)
+
+  pub run-25 : (answer ≡ 25) ↔ Ends (λ m. (numberIn (first g m) ≡ 0) × NoMode (m .mode) (word g m))
+  run-25 = calls.run-ended l m im b 25 (λ e. omega arith) (inr (omega arith, omega arith)) _ (steps.step-25 g)
+
+  pub run-26 : (answer ≡ 26) ↔ Ends (λ m. Begins g m × ((numberIn (second g m) ≡ 0) × (Pair (m .mode) (word g m) × On 15 (more g m))))
+  run-26 = calls.run-ended l m im b 26 (λ e. omega arith) (inr (omega arith, omega arith)) _ (steps.step-26 g)
+
+  pub run-27 : (answer ≡ 27) ↔ Ends (λ m. Continues g m × ((InRange (newX g m) → ⊥) ⊎ (InRange (newY g m) → ⊥)))
+  run-27 = calls.run-ended l m im b 27 (λ e. omega arith) (inr (omega arith, omega arith)) _ (steps.step-27 g)
+
+-- the other calls, and plot
+pub start-0 : (m : Machine) (a : ℕ) → (startCall m a ≡ record { answer = 0; machine = startedAt m a }) ↔ Fits m
+start-0 = others.start-0
+
+pub start-16 : (m : Machine) (a : ℕ) → (startCall m a .answer ≡ 16) ↔ (Fits m → ⊥)
+start-16 = others.start-16
+
+pub clear-0 : (im : List ℕ) → length im ≡ imageBytes → clearCall im ≡ left 0 blank
+clear-0 = others.clear-0
+
+pub read-0 : (s : Shape) (im : List ℕ) (p : Pixel) → (readCall s im p ≡ record { answer = 0; digit = digitAt s im (natAbs (p .x .0)) (natAbs (p .y .0)) }) ↔ ((length im ≡ imageBytes) × InField s p)
+read-0 = others.read-0
+
+pub read-11 : (s : Shape) (im : List ℕ) (p : Pixel) → (readCall s im p ≡ record { answer = 11; digit = 0 }) ↔ (length im ≡ imageBytes → ⊥)
+read-11 = others.read-11
+
+pub read-31 : (s : Shape) (im : List ℕ) (p : Pixel) → (readCall s im p ≡ record { answer = 31; digit = 0 }) ↔ ((length im ≡ imageBytes) × (InField s p → ⊥))
+read-31 = others.read-31
+
+pub plot-19 : (bytes : List ℕ) → (plotLine bytes ≡ refusedLine 19) ↔ ((length bytes % 2 ≡ 0 → ⊥) ⊎ (65536 < length bytes))
+plot-19 = others.plot-19
+
+-- ==== Demand 2
+
+-- ---- the plot comes before the step
+-- lit words of graph Y, run one after the other from any position with room for their steps: the whole state after them
+pub graph-y-plots-then-steps : (g : Given) (s : State) (ws : List ℕ) → Ready AlongX g s ws → run g (length ws) s ≡ plotted AlongX s ws
+graph-y-plots-then-steps = graphs.plot-then-step AlongX
+
+pub graph-x-plots-then-steps : (g : Given) (s : State) (ws : List ℕ) → Ready AlongY g s ws → run g (length ws) s ≡ plotted AlongY s ws
+graph-x-plots-then-steps = graphs.plot-then-step AlongY
+
+-- of which: word k lights the pixel of (start + k x increment, its value), so that word 0 stands in the start's own column
+pub week-k : (h : Shape) (x : ℤ) (g k : ℕ) (ws : List ℕ) (d : Pixel) → k < length ws
+    → getD (weeks AlongX h x g 0 ws) k d ≡ pixelAt h (units (x +ℤ pos ((0 + k) * g))) (coordinate (getD ws k 0))
+week-k h x g k ws d p = graphs.week-at AlongX h x g 0 k ws d p
+
+-- the image is the one before with these pixels stored, and X ends one increment past the last word
+pub week-picture : (g : Given) (s : State) (ws : List ℕ) → Ready AlongX g s ws
+    → run g (length ws) s .image ≡ stores (shapeOf (s .machine)) (penOf (s .machine)) (s .image) (shown (s .machine) (weeks AlongX (shapeOf (s .machine)) (s .machine .x .0) (s .machine .increment) 0 ws))
+week-picture g s ws r = ap (λ (t : State). t .image) (graphs.plot-then-step AlongX g s ws r)
+
+pub week-position : (g : Given) (s : State) (ws : List ℕ) → Ready AlongX g s ws → run g (length ws) s .machine .x ≡ units (s .machine .x .0 +ℤ pos (length ws * s .machine .increment))
+week-position g s ws r = ap (λ (t : State). t .machine .x) (graphs.plot-then-step AlongX g s ws r)
+
+-- ---- nothing is hidden between steps: a run of b + c is a run of b and then one of c, the counts summed
+pub runs-in-a-row : (g : Given) (b c : ℕ) (m : Machine) (im : List ℕ)
+    → run g (b + c) (begun m im) ≡ runs.plus (run g b (begun m im) .counts) (run g c (begun (run g b (begun m im) .machine) (run g b (begun m im) .image)))
+runs-in-a-row = runs.run-twice
+
+-- ==== Demand 3
+
+-- ---- drift does not build up
+-- after a run of any budget a coordinate is its last outright setting, or its starting value, plus every signed move and step completed since
+pub no-drift-x : (g : Given) (b : ℕ) (s : State) → run g b s .machine .x ≡ settled (s .machine .x) (changes (λ w. w .x) (s .machine .increment) (completed g b s))
+no-drift-x = drift.no-drift-x
+
+pub no-drift-y : (g : Given) (b : ℕ) (s : State) → run g b s .machine .y ≡ settled (s .machine .y) (changes (λ w. w .y) (s .machine .increment) (completed g b s))
+no-drift-y = drift.no-drift-y
+
+-- and the ledger has every completed instruction
+pub nothing-left-out : (g : Given) (b : ℕ) (s : State) → run g b s .counts .steps ≡ s .counts .steps + length (completed g b s)
+nothing-left-out = drift.completed-all
+
+-- ---- a vector's pixels lie near the exact line
+-- there are n + 1 of them
+pub vector-length : (a b : Pixel) → length (vector a b) ≡ suc (longer a b)
+vector-length = vectors.vector-length
+
+-- 2n times pixel i differs from its exact point's numerator by less than 2n, across and up
+pub vector-near : (x y x′ y′ : Units) (i : ℕ) (d : Pixel) → 0 < longer (pixelAt square x y) (pixelAt square x′ y′) → i ≤ longer (pixelAt square x y) (pixelAt square x′ y′)
+    → let n = longer (pixelAt square x y) (pixelAt square x′ y′) in
+    let p = getD (vector (pixelAt square x y) (pixelAt square x′ y′)) i d in
+    (natAbs (pos (2 * n) *ℤ p .x .0 -ℤ exact (x .0) (x′ .0) n i) < 2 * n) × (natAbs (pos (2 * n) *ℤ p .y .0 -ℤ exact (y .0) (y′ .0) n i) < 2 * n)
+vector-near = vectors.vector-near
+
+-- where n is 0 there is one pixel, and twice it differs from each end by at most 1
+pub one-pixel : (a b : Pixel) → longer a b ≡ 0 → vector a b ≡ a ∷ []
+one-pixel = vectors.vector-point
+
+pub one-pixel-near : (x y x′ y′ : Units) → longer (pixelAt square x y) (pixelAt square x′ y′) ≡ 0
+    → let p = pixelAt square x y in
+    (natAbs (pos 2 *ℤ p .x .0 -ℤ x .0) ≤ 1) × (natAbs (pos 2 *ℤ p .x .0 -ℤ x′ .0) ≤ 1) × (natAbs (pos 2 *ℤ p .y .0 -ℤ y .0) ≤ 1) × (natAbs (pos 2 *ℤ p .y .0 -ℤ y′ .0) ≤ 1)
+one-pixel-near = vectors.point-near
+
+-- ---- a vector drawn backwards has the same pixels, in the reverse order, and leaves the same image
+pub vector-backwards : (a b : Pixel) → vector b a ≡ reverse (vector a b)
+vector-backwards = vectors.vector-turned
+
+pub image-backwards : (s : Shape) (pen : Pen) → ((v : ℕ) → pen v < s .base) → (im : List ℕ) (a b : Pixel) → stores s pen im (inside s (vector b a)) ≡ stores s pen im (inside s (vector a b))
+image-backwards = vectors.same-image
+
+-- ==== One outcome: two outcomes that the promise of a call allows are equal
+
+pub one-check : (f : List ℕ) {n n′ : ℕ} → Promise-check f n → Promise-check f n′ → n ≡ n′
+one-check f p q = p ∙ sym q
+
+pub one-fresh : {m m′ : Machine} → Promise-fresh m → Promise-fresh m′ → m ≡ m′
+one-fresh p q = p ∙ sym q
+
+pub one-start : (m : Machine) (a : ℕ) {r r′ : Started} → Promise-start m a r → Promise-start m a r′ → r ≡ r′
+one-start m a p q = p ∙ sym q
+
+pub one-run : (l : Lent) (m : Machine) (im : List ℕ) (b : ℕ) {r r′ : Ran} {im′ im″ : List ℕ} → Promise-run l m im b r im′ → Promise-run l m im b r′ im″ → (r ≡ r′) × (im′ ≡ im″)
+one-run l m im b p q = (ap (λ (o : Left Ran). o .result) (p ∙ sym q), ap (λ (o : Left Ran). o .image) (p ∙ sym q))
+
+pub one-step : (l : Lent) (m : Machine) (im : List ℕ) {r r′ : Ran} {im′ im″ : List ℕ} → Promise-step l m im r im′ → Promise-step l m im r′ im″ → (r ≡ r′) × (im′ ≡ im″)
+one-step l m im p q = one-run l m im 1 p q
+
+pub one-clear : (im : List ℕ) {n n′ : ℕ} {im′ im″ : List ℕ} → Promise-clear im n im′ → Promise-clear im n′ im″ → (n ≡ n′) × (im′ ≡ im″)
+one-clear im p q = (ap (λ (o : Left ℕ). o .result) (p ∙ sym q), ap (λ (o : Left ℕ). o .image) (p ∙ sym q))
+
+pub one-read : (im : List ℕ) (p : Pixel) {r r′ : Read} → Promise-read im p r → Promise-read im p r′ → r ≡ r′
+one-read im p q q′ = q ∙ sym q′

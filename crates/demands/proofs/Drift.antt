@@ -1,0 +1,129 @@
+-- No drift: a coordinate is its last outright setting, or its start, plus every signed move and step completed since.
+use Prim.Native.Nat.{ℕ, zero, suc, _+_}
+use mathlib.Core.Bool.{Bool, true, false}
+use mathlib.Core.List.{List, [], _∷_}
+use mathlib.Core.Path.{_≡_, refl, sym, ap, _∙_}
+use native.Mathlib.Omega.{arith}
+use native.Mathlib.Nat.{add-zero}
+use lib.Dec.{eqb}
+use lib.ListN.{length}
+use lib.IntN.{ℤ, pos, _+ℤ_}
+use borrow.Author.Tests.{eqb-true, eqb-false}
+use Rattle.whole.specs.Parts.{whole, add}
+use Rattle.definition.specs.Choice.{pick}
+use Rattle.definition.specs.Units.{units, moved}
+use Rattle.definition.specs.File.{wordIn}
+use Rattle.definition.specs.Step.{Change, Way, wayOf, changed, ordered, done, Given, second, instruction, refusal, step}
+use Rattle.definition.specs.Step.Change.{Stay, Set, Move}
+use Rattle.definition.specs.Run.{State, run}
+use Rattle.definition.specs.declared.Units.{Units}
+use Rattle.definition.specs.declared.Machine.{Machine}
+use Rattle.definition.specs.declared.Order.{Order}
+use Rattle.definition.specs.declared.Order.the-variants.{SetMode, Jump, NoOp, StatusA, Increment, StatusC}
+use Rattle.definition.specs.declared.Instruction.{Instruction}
+use Rattle.definition.specs.declared.Instruction.the-variants.{Does, Draws}
+use Rattle.demands.specs.Ledger.{entry, completed, orderIncrement, incrementAfter, changes, lastSetting, sumSince, settled}
+use Rattle.demands.proofs.Runs.{on, step-done, step-refused, run-stopped}
+
+from-nothing : (u : Units) → u ≡ units (u .0 +ℤ pos 0)
+from-nothing u = ap units (omega (whole, add (u .0) (pos 0)))
+
+-- ---- changes one after the other, and what they come to
+abbrev changedBy : Units → List Change → Units
+changedBy u [] = u
+changedBy u (c ∷ cs) = changedBy (changed u c) cs
+
+comes-to : (u : Units) (z : ℤ) (cs : List Change) → changedBy (units (u .0 +ℤ z)) cs ≡ units (lastSetting u cs .0 +ℤ sumSince z cs)
+unfolding moved
+comes-to u z [] = refl
+comes-to u z (Stay ∷ cs) = comes-to u z cs
+comes-to u z (Set v ∷ cs) = ap (λ (w : Units). changedBy w cs) (from-nothing v) ∙ comes-to v (pos 0) cs
+comes-to u z (Move d ∷ cs) =
+    ap (λ (n : ℤ). changedBy (units n) cs) (omega (whole, add (u .0) z, add (u .0 +ℤ z) (d .0), add z (d .0), add (u .0) (z +ℤ d .0)))
+    ∙ comes-to u (z +ℤ d .0) cs
+
+settles : (u : Units) (cs : List Change) → changedBy u cs ≡ settled u cs
+settles u cs = ap (λ (w : Units). changedBy w cs) (from-nothing u) ∙ comes-to u (pos 0) cs
+
+-- ---- one instruction
+ordered-leaves : (m : Machine) (o : Order) → (ordered m o .x ≡ m .x) × (ordered m o .y ≡ m .y) × (ordered m o .increment ≡ orderIncrement (m .increment) o)
+unfolding ordered
+ordered-leaves m (SetMode b) = (refl, refl, refl)
+ordered-leaves m Jump = (refl, refl, refl)
+ordered-leaves m NoOp = (refl, refl, refl)
+ordered-leaves m (StatusA b) = (refl, refl, refl)
+ordered-leaves m (Increment b) = (refl, refl, refl)
+ordered-leaves m (StatusC b) = (refl, refl, refl)
+
+module _ (m : Machine) where
+  pub done-x : (i : Instruction) (v : ℕ) → done m i v .x ≡ changed (m .x) (wayOf (m .increment) i v .x)
+  unfolding done
+  done-x (Does o) v = ordered-leaves m o .0
+  done-x (Draws lit it) v = refl
+
+  pub done-y : (i : Instruction) (v : ℕ) → done m i v .y ≡ changed (m .y) (wayOf (m .increment) i v .y)
+  unfolding done
+  done-y (Does o) v = ordered-leaves m o .1
+  done-y (Draws lit it) v = refl
+
+  done-increment : (i : Instruction) (v : ℕ) → done m i v .increment ≡ incrementAfter (m .increment) i
+  unfolding done
+  done-increment (Does o) v = ordered-leaves m o .2
+  done-increment (Draws lit it) v = refl
+
+-- ---- a run, for either coordinate: `get` reads it off the machine, `axis` off a way
+module _ (g : Given) (get : Machine → Units) (axis : Way → Change)
+    (one : (m : Machine) (i : Instruction) (v : ℕ) → get (done m i v) ≡ changed (get m) (axis (wayOf (m .increment) i v)))
+    (same : (m : Machine) → (refusal g m ≡ 0 → ⊥) → get (step g m .machine) ≡ get m) where
+  steady : (b : ℕ) (s : State) → get (run g b s .machine) ≡ changedBy (get (s .machine)) (changes axis (s .machine .increment) (completed g b s))
+  unfolding run completed
+  steady zero s = refl
+  steady (suc b) s = go (eqb (s .machine .status) 0) (eqb (refusal g (s .machine)) 0) refl (steady b (on g s))
+    where
+      m : Machine
+      m = s .machine
+
+      go : (t u : Bool) → eqb (refusal g m) 0 ≡ u
+          → get (run g b (on g s) .machine) ≡ changedBy (get (on g s .machine)) (changes axis (on g s .machine .increment) (completed g b (on g s)))
+          → get (pick t (run g b (on g s)) s .machine) ≡ changedBy (get m) (changes axis (m .increment) (pick t (pick u (entry g s ∷ completed g b (on g s)) []) []))
+      go false u e ih = refl
+      go true false e ih =
+          let h = eqb-false _ _ e in
+          let st : step g m .machine .status ≡ refusal g m = rw (step-refused g m h) in
+          ap (λ (r : State). get (r .machine)) (run-stopped g b (on g s) (λ q. h (sym st ∙ q))) ∙ same m h
+      go true true e ih =
+          let d = step-done g m (eqb-true _ _ e) in
+          ih ∙ rw (d, one m (instruction g m) (wordIn (second g m)), done-increment m (instruction g m) (wordIn (second g m)))
+
+  no-drift : (b : ℕ) (s : State) → get (run g b s .machine) ≡ settled (get (s .machine)) (changes axis (s .machine .increment) (completed g b s))
+  no-drift b s = steady b s ∙ settles (get (s .machine)) (changes axis (s .machine .increment) (completed g b s))
+
+-- ---- the theorem, for X and for Y
+module _ (g : Given) (b : ℕ) (s : State) where
+  pub no-drift-x : run g b s .machine .x ≡ settled (s .machine .x) (changes (λ w. w .x) (s .machine .increment) (completed g b s))
+  no-drift-x = no-drift g (λ m. m .x) (λ w. w .x) done-x (λ m h. rw (step-refused g m h)) b s
+
+  pub no-drift-y : run g b s .machine .y ≡ settled (s .machine .y) (changes (λ w. w .y) (s .machine .increment) (completed g b s))
+  no-drift-y = no-drift g (λ m. m .y) (λ w. w .y) done-y (λ m h. rw (step-refused g m h)) b s
+
+-- the ledger has every completed instruction: its length is the number of steps counted
+pub completed-all : (g : Given) (b : ℕ) (s : State) → run g b s .counts .steps ≡ s .counts .steps + length (completed g b s)
+unfolding run completed
+completed-all g zero s = sym (add-zero _)
+completed-all g (suc b) s = go (eqb (s .machine .status) 0) (eqb (refusal g (s .machine)) 0) refl (completed-all g b (on g s))
+  where
+    m : Machine
+    m = s .machine
+
+    go : (t u : Bool) → eqb (refusal g m) 0 ≡ u
+        → run g b (on g s) .counts .steps ≡ on g s .counts .steps + length (completed g b (on g s))
+        → pick t (run g b (on g s)) s .counts .steps ≡ s .counts .steps + length (pick t (pick u (entry g s ∷ completed g b (on g s)) []) [])
+    go false u e ih = omega arith
+    go true false e ih =
+        let h = eqb-false _ _ e in
+        let st : step g m .machine .status ≡ refusal g m = rw (step-refused g m h) in
+        let no : step g m .steps ≡ 0 = rw (step-refused g m h) in
+        ap (λ (r : State). r .counts .steps) (run-stopped g b (on g s) (λ q. h (sym st ∙ q))) ∙ omega arith
+    go true true e ih =
+        let one : step g m .steps ≡ 1 = rw (step-done g m (eqb-true _ _ e)) in
+        omega arith

@@ -1,0 +1,175 @@
+-- Plot before step: word k of a list of lit graph words stands k increments from the start, and the position ends one increment past the last.
+use Prim.Native.Nat.{ℕ, zero, suc, _+_, _*_, _/_, _%_, _<_}
+use mathlib.Core.Bool.{Bool, true, false}
+use mathlib.Core.List.{List, [], _∷_, _++_}
+use mathlib.Core.Path.{_≡_, refl, sym, ap, _∙_}
+use native.Mathlib.Omega.{arith}
+use native.Mathlib.Nat.{add-assoc, add-zero}
+use lib.ListN.{length, length-append, getD}
+use lib.IntN.{ℤ, pos, negsuc, _+ℤ_}
+use lib.Signed.{_≤ℤ_}
+use borrow.Author.Tests.{eq-eqb, ne-eqb}
+use Rattle.whole.specs.Parts.{whole, add}
+use Rattle.definition.specs.Choice.{pick, firstOf}
+use Rattle.definition.specs.Units.{units, moved}
+use Rattle.definition.specs.Image.{Shape, inside, stores}
+use Rattle.definition.specs.File.{fetchRefusals}
+use Rattle.definition.specs.Words.{coordinate, item, decode, firstRefusals, secondRefusals}
+use Rattle.definition.specs.Machine.{next, shapeOf, penOf}
+use Rattle.definition.specs.Step.{Given, wayRefusals, refusals, refusal, done}
+use Rattle.definition.specs.Run.{State, after, run}
+use Rattle.definition.specs.declared.Units.{Units}
+use Rattle.definition.specs.declared.Pixel.{Pixel}
+use Rattle.definition.specs.declared.Machine.{Machine}
+use Rattle.definition.specs.declared.Fetched.the-variants.{Word}
+use Rattle.definition.specs.declared.Item.{Item}
+use Rattle.definition.specs.declared.Item.the-variants.{GraphX, GraphY}
+use Rattle.definition.specs.declared.Instruction.the-variants.{Draws}
+use Rattle.definition.proofs.ImageLaws.{stores-append, inside-append}
+use Rattle.demands.specs.Conditions.{InRange}
+use Rattle.demands.specs.Graphs.{Axis, AlongX, AlongY, modeOf, stepped, valued, pixelOn, weeks, shown, went, Ready, plotted}
+use Rattle.demands.proofs.Runs.{on, step-done, run-turn}
+use Rattle.demands.proofs.Kept.{in-range}
+
+-- ---- one word
+abbrev itemOf : Axis → Units → Item
+itemOf AlongX v = GraphY v
+itemOf AlongY v = GraphX v
+
+decoded : (axis : Axis) (w : ℕ) → w / 16384 ≡ 1 → decode (modeOf axis) w ≡ Draws true (itemOf axis (coordinate w))
+unfolding decode item
+decoded AlongX w e =
+    let a : w / 32768 % 2 ≡ 1 → ⊥ = λ q. omega arith in
+    let b : w / 16384 % 2 ≡ 1 = omega arith in
+    rw (ne-eqb _ _ a, eq-eqb _ _ b)
+decoded AlongY w e =
+    let a : w / 32768 % 2 ≡ 1 → ⊥ = λ q. omega arith in
+    let b : w / 16384 % 2 ≡ 1 = omega arith in
+    rw (ne-eqb _ _ a, eq-eqb _ _ b)
+
+-- a coordinate of a word is in range
+coordinate-in : (w : ℕ) → InRange (coordinate w)
+coordinate-in w = record { low = omega whole; high = omega whole }
+
+-- one increment on
+abbrev grown : Axis → Machine → Units
+grown axis m = moved (stepped axis m) (units (pos (m .increment)))
+
+module _ (g : Given) (s : State) (w : ℕ) (here : g .memory (s .machine .counter) ≡ Word w) (lit : w / 16384 ≡ 1) where
+  abbrev m : Machine
+  m = s .machine
+
+  -- no refusal: the word is a lit graph word, and the coordinate that it steps stays in range
+  free : (axis : Axis) → m .mode ≡ modeOf axis → InRange (grown axis m) → refusal g m ≡ 0
+  unfolding refusal refusals fetchRefusals firstRefusals secondRefusals wayRefusals firstOf
+  free AlongX five fits =
+      let a : w / 32768 % 2 ≡ 1 → ⊥ = λ q. omega arith in
+      rw (here, five, decoded AlongX w lit, ne-eqb _ _ a, in-range .1 fits, in-range .1 (coordinate-in w))
+  free AlongY four fits =
+      let a : w / 32768 % 2 ≡ 1 → ⊥ = λ q. omega arith in
+      rw (here, four, decoded AlongY w lit, ne-eqb _ _ a, in-range .1 fits, in-range .1 (coordinate-in w))
+
+  -- the point is plotted where the machine stands, and the step comes after it
+  one-word : (axis : Axis) → m .mode ≡ modeOf axis → InRange (grown axis m)
+      → on g s ≡ went axis s (next (m .counter)) (grown axis m) (coordinate w) 1 (pixelOn axis (shapeOf m) (stepped axis m) (coordinate w) ∷ [])
+  unfolding done
+  one-word AlongX five fits = ap (after s) (step-done g m (free AlongX five fits)) ∙ rw (here, five, decoded AlongX w lit)
+  one-word AlongY four fits = ap (after s) (step-done g m (free AlongY four fits)) ∙ rw (here, four, decoded AlongY w lit)
+
+-- ---- one word after the other
+shown-append : (m : Machine) (ps qs : List Pixel) → shown m (ps ++ qs) ≡ shown m ps ++ shown m qs
+shown-append m ps qs = go (m .write)
+  where
+    go : (on : Bool) → pick on (inside (shapeOf m) (ps ++ qs)) [] ≡ pick on (inside (shapeOf m) ps) [] ++ pick on (inside (shapeOf m) qs) []
+    go true = inside-append (shapeOf m) ps qs
+    go false = refl
+
+went-twice : (axis : Axis) (s : State) (a a′ : ℕ) (u u′ v v′ : Units) (n n′ : ℕ) (ps qs : List Pixel)
+    → went axis (went axis s a u v n ps) a′ u′ v′ n′ qs ≡ went axis s a′ u′ v′ (n + n′) (ps ++ qs)
+went-twice AlongX s a a′ u u′ v v′ n n′ ps qs =
+    let m = s .machine in
+    simp (shown-append m ps qs, stores-append (shapeOf m) (penOf m) (s .image) (shown m ps) (shown m qs), length-append (shown m ps) (shown m qs), add-assoc)
+went-twice AlongY s a a′ u u′ v v′ n n′ ps qs =
+    let m = s .machine in
+    simp (shown-append m ps qs, stores-append (shapeOf m) (penOf m) (s .image) (shown m ps) (shown m qs), length-append (shown m ps) (shown m qs), add-assoc)
+
+went-nowhere : (axis : Axis) (s : State) (u : Units) → u ≡ stepped axis (s .machine) → went axis s (s .machine .counter) u (valued axis (s .machine)) 0 [] ≡ s
+unfolding stores inside
+went-nowhere AlongX s u e = simp (none (s .machine .write), e, add-zero)
+  where
+    none : (on : Bool) → pick on (inside (shapeOf (s .machine)) []) [] ≡ []
+    none true = refl
+    none false = refl
+went-nowhere AlongY s u e = simp (none (s .machine .write), e, add-zero)
+  where
+    none : (on : Bool) → pick on (inside (shapeOf (s .machine)) []) [] ≡ []
+    none true = refl
+    none false = refl
+
+-- from one increment further on, the words have one number less
+shift : (axis : Axis) (h : Shape) (x : ℤ) (g k : ℕ) (ws : List ℕ) → weeks axis h (x +ℤ pos g) g k ws ≡ weeks axis h x g (suc k) ws
+shift axis h x g k [] = refl
+shift axis h x g k (w ∷ ws) =
+    let e : (x +ℤ pos g) +ℤ pos (k * g) ≡ x +ℤ pos (suc k * g) = omega (whole, add x (pos g), add (x +ℤ pos g) (pos (k * g)), add x (pos (suc k * g))) in
+    rw (e, shift axis h x g (suc k) ws)
+
+further : (x : ℤ) (g n : ℕ) → (x +ℤ pos g) +ℤ pos (n * g) ≡ x +ℤ pos (suc n * g)
+further x g n = omega (whole, add x (pos g), add (x +ℤ pos g) (pos (n * g)), add x (pos (suc n * g)))
+
+from-here : (x : ℤ) (g : ℕ) → x +ℤ pos (0 * g) ≡ x
+from-here x g = omega (whole, add x (pos (0 * g)))
+
+-- the state after the first word, and the rest from there
+abbrev begins : Axis → State → ℕ → State
+begins axis s w = went axis s (next (s .machine .counter)) (grown axis (s .machine)) (coordinate w) 1 (pixelOn axis (shapeOf (s .machine)) (stepped axis (s .machine)) (coordinate w) ∷ [])
+
+the-rest : (axis : Axis) (s : State) (w : ℕ) (ws : List ℕ) → plotted axis (begins axis s w) ws ≡ plotted axis s (w ∷ ws)
+unfolding moved
+the-rest AlongX s w ws =
+    let x = s .machine .x .0 in
+    let g = s .machine .increment in
+    let e : 1 + length ws ≡ suc (length ws) = omega arith in
+    went-twice AlongX s (next (s .machine .counter)) _ (grown AlongX (s .machine)) _ (coordinate w) _ 1 (length ws) _ _
+    ∙ rw (further x g (length ws), shift AlongX (shapeOf (s .machine)) x g 0 ws, from-here x g, e)
+the-rest AlongY s w ws =
+    let y = s .machine .y .0 in
+    let g = s .machine .increment in
+    let e : 1 + length ws ≡ suc (length ws) = omega arith in
+    went-twice AlongY s (next (s .machine .counter)) _ (grown AlongY (s .machine)) _ (coordinate w) _ 1 (length ws) _ _
+    ∙ rw (further y g (length ws), shift AlongY (shapeOf (s .machine)) y g 0 ws, from-here y g, e)
+
+-- the first word fits, and what is left is ready for the others
+grown-in : (x : ℤ) (g n : ℕ) → negsuc 4095 ≤ℤ x → (x +ℤ pos (suc n * g)) ≤ℤ pos 4095 → InRange (units (x +ℤ pos g))
+grown-in x g n lo hi = record { low = omega (whole, add x (pos g)); high = omega (whole, add x (pos g), add x (pos (suc n * g))) }
+
+first-fits : (axis : Axis) (g : Given) (s : State) (w : ℕ) (ws : List ℕ) → Ready axis g s (w ∷ ws) → InRange (grown axis (s .machine))
+unfolding moved
+first-fits axis g s w ws r = grown-in (stepped axis (s .machine) .0) (s .machine .increment) (length ws) (r .low) (r .room)
+
+still-ready : (axis : Axis) (g : Given) (s : State) (w : ℕ) (ws : List ℕ) → Ready axis g s (w ∷ ws) → Ready axis g (begins axis s w) ws
+unfolding moved
+still-ready AlongX g s w ws r =
+    let x = s .machine .x .0 in
+    let i = s .machine .increment in
+    record { running = r .running; mode = r .mode; words = r .words .1; lit = r .lit .1; low = first-fits AlongX g s w ws r .low; room = rw (further x i (length ws)) (r .room) }
+still-ready AlongY g s w ws r =
+    let y = s .machine .y .0 in
+    let i = s .machine .increment in
+    record { running = r .running; mode = r .mode; words = r .words .1; lit = r .lit .1; low = first-fits AlongY g s w ws r .low; room = rw (further y i (length ws)) (r .room) }
+
+-- ---- the theorem
+pub plot-then-step : (axis : Axis) (g : Given) (s : State) (ws : List ℕ) → Ready axis g s ws → run g (length ws) s ≡ plotted axis s ws
+unfolding run
+plot-then-step axis g s [] r = sym (went-nowhere axis s _ (ap units (from-here (stepped axis (s .machine) .0) (s .machine .increment))))
+plot-then-step axis g s (w ∷ ws) r =
+    run-turn g (length ws) s (r .running)
+    ∙ ap (run g (length ws)) (one-word g s w (r .words .0) (r .lit .0) axis (r .mode) (first-fits axis g s w ws r))
+    ∙ plot-then-step axis g (begins axis s w) ws (still-ready axis g s w ws r)
+    ∙ the-rest axis s w ws
+
+-- word k of the list, by its number: word 0 stands at the start itself
+pub week-at : (axis : Axis) (h : Shape) (x : ℤ) (g j k : ℕ) (ws : List ℕ) (d : Pixel) → k < length ws
+    → getD (weeks axis h x g j ws) k d ≡ pixelOn axis h (units (x +ℤ pos ((j + k) * g))) (coordinate (getD ws k 0))
+week-at axis h x g j k [] d p = absurd (omega arith)
+week-at axis h x g j zero (w ∷ ws) d p = rw (add-zero j)
+week-at axis h x g j (suc k) (w ∷ ws) d p = let e : suc j + k ≡ j + suc k = omega arith in week-at axis h x g (suc j) k ws d (omega arith) ∙ rw e

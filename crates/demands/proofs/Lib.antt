@@ -1,0 +1,14 @@
+pub mod Runs
+pub mod Drift
+pub mod FileAnswers
+pub mod Kept
+pub mod WordAnswers
+pub mod StepAnswers
+pub mod CallAnswers
+pub mod OtherCalls
+pub mod Outside
+pub mod Near
+pub mod Numbered
+pub mod Vectors
+pub mod Graphs
+pub mod Demands

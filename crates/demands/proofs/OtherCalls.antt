@@ -1,0 +1,113 @@
+-- The answers of start, clear and read-pixel, and of `plot`, each exactly when.
+use Prim.Native.Nat.{ℕ, _<_, _%_}
+use mathlib.Core.Bool.{true}
+use mathlib.Core.List.{List, [], _∷_, _++_}
+use mathlib.Core.Path.{_≡_, refl, ap}
+use mathlib.Core.Logic.{_⊎_, _↔_}
+use native.Mathlib.Omega.{arith}
+use native.Mathlib.Decide.{ℕ-discrete}
+use lib.ListN.{length}
+use lib.IntN.{ℤ, pos, natAbs}
+use borrow.Author.Tests.{eq-eqb, ne-eqb}
+use Rattle.definition.specs.Choice.{firstOf}
+use Rattle.definition.specs.Image.{Shape, imageBytes, blank, inField, digitAt, left}
+use Rattle.definition.specs.Machine.{fresh, startedAt, machineDoors}
+use Rattle.definition.specs.File.{headDoors, segmentDoors, fileDoors}
+use Rattle.definition.specs.Calls.{imageDoors, budgetDoors, runningDoors, fieldDoors, startCall, clearCall, readCall, plain, runDoors}
+use Rattle.definition.specs.Plot.{wordsIn, inputDoors, plotBudget, refusedLine, plotLine}
+use Rattle.definition.specs.declared.Pixel.{Pixel}
+use Rattle.definition.specs.declared.Machine.{Machine}
+use Rattle.definition.specs.declared.Started.{Started}
+use Rattle.definition.specs.declared.Read.{Read}
+use Rattle.definition.proofs.Exactly.{exactly, none}
+use Rattle.definition.proofs.Plain.{_so_, _and_, _or_, itself, is-less, is-equal, not-equal, is-mostZ, is-lessZ, not-true, not-false, both-true, either-true, failing, never}
+use Rattle.demands.specs.Conditions.{Fits, InField}
+use Rattle.demands.proofs.Kept.{fits}
+use Rattle.demands.proofs.CallAnswers.{never-19}
+
+-- ---- start
+module _ (m : Machine) (a : ℕ) where
+  pub start-16 : (startCall m a .answer ≡ 16) ↔ (Fits m → ⊥)
+  unfolding startCall machineDoors
+  start-16 = exactly 16 (machineDoors m) (omega arith) so not-true so failing so never (fits m)
+
+  pub start-0 : (startCall m a ≡ record { answer = 0; machine = startedAt m a }) ↔ Fits m
+  unfolding startCall machineDoors
+  start-0 = (λ e. opened .0 (ap (λ (r : Started). r .answer) e), λ f. rw (opened .1 f))
+    where
+      opened : (firstOf (machineDoors m) ≡ 0) ↔ Fits m
+      opened = none (machineDoors m) refl so (not-false so fits m) and itself so (λ w. w .0, λ f. (f, tt))
+
+  -- refused, it leaves the machine as given
+  pub start-shut : (Fits m → ⊥) → startCall m a ≡ record { answer = 16; machine = m }
+  unfolding startCall machineDoors
+  start-shut h = let e = start-16 .1 h in rw e
+
+-- ---- clear
+module _ (im : List ℕ) where
+  pub clear-0 : length im ≡ imageBytes → clearCall im ≡ left 0 blank
+  unfolding clearCall imageDoors firstOf
+  clear-0 e = rw (eq-eqb _ _ e)
+
+  pub clear-11 : (length im ≡ imageBytes → ⊥) → clearCall im ≡ left 11 im
+  unfolding clearCall imageDoors firstOf
+  clear-11 h = rw (ne-eqb _ _ h)
+
+-- ---- read-pixel
+module _ (s : Shape) (im : List ℕ) (p : Pixel) where
+  in-field : (inField s p ≡ true) ↔ InField s p
+  unfolding inField
+  in-field =
+      both-true so (both-true so is-mostZ and is-lessZ) and (both-true so is-mostZ and is-lessZ)
+      so (λ w. record { x = w .0; y = w .1 }, λ f. (f .x, f .y))
+
+  pub read-11 : (readCall s im p ≡ record { answer = 11; digit = 0 }) ↔ (length im ≡ imageBytes → ⊥)
+  unfolding readCall imageDoors fieldDoors
+  read-11 = (λ e. given .0 (ap (λ (r : Read). r .answer) e), λ h. rw (given .1 h))
+    where
+      given : (firstOf (imageDoors im ++ fieldDoors s p) ≡ 11) ↔ (length im ≡ imageBytes → ⊥)
+      given = exactly 11 (imageDoors im ++ fieldDoors s p) (omega arith) so not-true so not-equal
+
+  pub read-31 : (readCall s im p ≡ record { answer = 31; digit = 0 }) ↔ ((length im ≡ imageBytes) × (InField s p → ⊥))
+  unfolding readCall imageDoors fieldDoors
+  read-31 = (λ e. given .0 (ap (λ (r : Read). r .answer) e), λ h. rw (given .1 h))
+    where
+      given : (firstOf (imageDoors im ++ fieldDoors s p) ≡ 31) ↔ ((length im ≡ imageBytes) × (InField s p → ⊥))
+      given = exactly 31 (imageDoors im ++ fieldDoors s p) (omega arith) so (not-false so is-equal) and (not-true so failing so never in-field)
+
+  pub read-0 : (readCall s im p ≡ record { answer = 0; digit = digitAt s im (natAbs (p .x .0)) (natAbs (p .y .0)) }) ↔ ((length im ≡ imageBytes) × InField s p)
+  unfolding readCall imageDoors fieldDoors
+  read-0 = (λ e. given .0 (ap (λ (r : Read). r .answer) e), λ h. rw (given .1 h))
+    where
+      given : (firstOf (imageDoors im ++ fieldDoors s p) ≡ 0) ↔ ((length im ≡ imageBytes) × InField s p)
+      given =
+          none (imageDoors im ++ fieldDoors s p) refl so (not-false so is-equal) and (not-false so in-field) and itself
+          so (λ w. (w .0, w .1 .0), λ w. (w .0, (w .1, tt)))
+
+-- ---- plot
+module _ (bytes : List ℕ) where
+  abbrev number : ℕ
+  number = firstOf (inputDoors bytes ++ runDoors (plain (wordsIn bytes)) fresh blank plotBudget)
+
+  input-19 : (number ≡ 19) ↔ ((length bytes % 2 ≡ 0 → ⊥) ⊎ (65536 < length bytes))
+  unfolding inputDoors runDoors imageDoors fileDoors headDoors segmentDoors machineDoors budgetDoors runningDoors
+  input-19 = exactly 19 (inputDoors bytes ++ runDoors (plain (wordsIn bytes)) fresh blank plotBudget) (omega arith) so either-true so (not-true so not-equal) or is-less
+
+  -- the first number of the line
+  abbrev head : List ℤ → ℤ
+  head [] = pos 0
+  head (z ∷ zs) = z
+
+  pub plot-19 : (plotLine bytes ≡ refusedLine 19) ↔ ((length bytes % 2 ≡ 0 → ⊥) ⊎ (65536 < length bytes))
+  unfolding plotLine
+  plot-19 = (λ e. input-19 .0 (go (ℕ-discrete number 0) e), λ h. rw (input-19 .1 h))
+    where
+      go : Dec (number ≡ 0) → plotLine bytes ≡ refusedLine 19 → number ≡ 19
+      go (no h) e = same (ap head (rw (ne-eqb _ _ h) at e))
+        where
+          same : {a b : ℕ} → pos a ≡ pos b → a ≡ b
+          same e = cc
+      go (yes z) e = absurd (never-19 (plain (wordsIn bytes)) fresh blank plotBudget (same (ap head (rw (eq-eqb _ _ z) at e))))
+        where
+          same : {a b : ℕ} → pos a ≡ pos b → a ≡ b
+          same e = cc

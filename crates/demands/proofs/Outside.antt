@@ -1,0 +1,73 @@
+-- Words outside the header and the segments make no difference.
+use Prim.Native.Nat.{ℕ, zero, suc, _+_, _*_, _%_, _≤_, _<_}
+use mathlib.Core.Bool.{not}
+use mathlib.Core.List.{List}
+use mathlib.Core.Path.{_≡_, refl, ap, fun-ext}
+use native.Mathlib.Omega.{arith}
+use native.Mathlib.Decide.{decLe}
+use lib.Dec.{eqb, leb}
+use lib.ListN.{length, getD}
+use borrow.Author.Tests.{le-leb}
+use Rattle.definition.specs.Choice.{pick, firstOf}
+use Rattle.definition.specs.File.{tag, segments, offset, size, keepBelow, headDoors, segmentDoors, fileDoors, segmentOf, placeOf, fetch}
+use Rattle.definition.specs.Calls.{plain, checkCall, runDoors, runDoor, runCall}
+use Rattle.definition.specs.declared.Unfetched.the-variants.{Odd, NoSegment, NoPlace}
+use Rattle.definition.specs.declared.Fetched.{Fetched}
+use Rattle.definition.specs.declared.Fetched.the-variants.{Word, Refused}
+use Rattle.definition.specs.declared.Machine.{Machine}
+use Rattle.definition.proofs.Exactly.{none}
+use Rattle.demands.specs.Conditions.{Accepted, SameHeader, SameWords}
+use Rattle.demands.proofs.FileAnswers.{check-0}
+
+-- ---- the check
+module _ (f g : List ℕ) (h : SameHeader f g) where
+  same-tag : tag f ≡ tag g
+  same-tag = h .same 0 (omega arith)
+
+  same-segments : segments f ≡ segments g
+  same-segments = h .same 1 (omega arith)
+
+  same-offset : (i : ℕ) → i < segments f → offset f i ≡ offset g i
+  same-offset i p = h .same (2 + 2 * i) (omega arith)
+
+  same-size : (i : ℕ) → i < segments f → size f i ≡ size g i
+  same-size i p = h .same (3 + 2 * i) (omega arith)
+
+  same-keep : length f ≡ length g → (k : ℕ) → k ≤ segments f → keepBelow f k ≡ keepBelow g k
+  unfolding keepBelow
+  same-keep l zero p = refl
+  same-keep l (suc i) p = rw (same-keep l i (omega arith), same-offset i p, same-size i p, same-segments, l)
+
+  pub same-check : length f ≡ length g → checkCall f ≡ checkCall g
+  unfolding checkCall fileDoors headDoors segmentDoors
+  same-check l = rw (same-keep l (segments f) (omega arith), same-tag, same-segments, l)
+
+-- ---- the fetch, and so everything that reads the file by it
+module _ (f g : List ℕ) (h : SameWords f g) where
+  same-fetch : (a : ℕ) → fetch f a ≡ fetch g a
+  unfolding fetch
+  same-fetch a = ap (λ (t : Fetched). pick (not (eqb (a % 2) 0)) (Refused Odd) t) (in-segment (decLe (segments f) (segmentOf a)) (decLe (size f (segmentOf a)) (placeOf a)))
+    where
+      in-segment : Dec (segments f ≤ (segmentOf a)) → Dec (size f (segmentOf a) ≤ placeOf a)
+          → pick (leb (segments f) (segmentOf a)) (Refused NoSegment) (pick (leb (size f (segmentOf a)) (placeOf a)) (Refused NoPlace) (Word (getD f (offset f (segmentOf a) + placeOf a) 0)))
+          ≡ pick (leb (segments g) (segmentOf a)) (Refused NoSegment) (pick (leb (size g (segmentOf a)) (placeOf a)) (Refused NoPlace) (Word (getD g (offset g (segmentOf a) + placeOf a) 0)))
+      in-segment (yes p) d = rw (← same-segments f g (h .headers), le-leb _ _ p)
+      in-segment (no p) (yes q) = rw (← same-segments f g (h .headers), ← same-size f g (h .headers) (segmentOf a) (omega arith), le-leb _ _ q)
+      in-segment (no p) (no q) =
+          rw (← same-segments f g (h .headers), ← same-size f g (h .headers) (segmentOf a) (omega arith), ← same-offset f g (h .headers) (segmentOf a) (omega arith), h .same (segmentOf a) (placeOf a) (omega arith) (omega arith))
+
+  same-memory : fetch f ≡ fetch g
+  same-memory = fun-ext same-fetch
+
+  -- both files are accepted, so that their doors are open alike
+  module _ (p : Accepted f) (q : Accepted g) (m : Machine) (im : List ℕ) (b : ℕ) where
+    same-door : runDoor (plain f) m im b ≡ runDoor (plain g) m im b
+    unfolding runDoor runDoors checkCall fileDoors headDoors segmentDoors firstOf
+    same-door =
+        let c = none (fileDoors f) refl .0 (check-0 f .1 p) in
+        let d = none (fileDoors g) refl .0 (check-0 g .1 q) in
+        rw (c .0, c .1 .0, c .1 .1 .0, c .1 .1 .1 .0, c .1 .1 .1 .1 .0, d .0, d .1 .0, d .1 .1 .0, d .1 .1 .1 .0, d .1 .1 .1 .1 .0)
+
+    pub same-run : runCall (plain f) m im b ≡ runCall (plain g) m im b
+    unfolding runCall
+    same-run = rw (same-door, same-memory)

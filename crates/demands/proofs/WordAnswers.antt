@@ -1,0 +1,88 @@
+-- What the tests on words ask, as plain conditions.
+use Prim.Native.Nat.{ℕ, zero, suc, _<_, _/_, _%_, _^_}
+use mathlib.Core.Bool.{Bool, true, false, not, _&&_}
+use mathlib.Core.Path.{_≡_, refl, sym}
+use mathlib.Core.Logic.{_⊎_, inl, inr, ⊎-elim, _↔_}
+use native.Mathlib.Omega.{arith}
+use lib.Dec.{eqb, leb}
+use borrow.Author.Tests.{eq-eqb, eqb-true, leb-true}
+use Rattle.definition.specs.Words.{none, bit, code, setsMode, notBuilt, order, item, decode, jumps, paired, isPaired, hasSecond}
+use Rattle.definition.specs.declared.Order.{Order}
+use Rattle.definition.specs.declared.Order.the-variants.{StatusA}
+use Rattle.definition.specs.declared.Item.{Item}
+use Rattle.definition.specs.declared.Instruction.{Instruction}
+use Rattle.definition.specs.declared.Instruction.the-variants.{Does}
+use Rattle.definition.proofs.Exactly.{apart}
+use Rattle.definition.proofs.Plain.{_so_, _and_, _or_, is-most, is-equal, not-equal, not-true, both-true, either-true}
+use Rattle.demands.proofs.Runs.{pick-keeps}
+use Rattle.demands.specs.Conditions.{On, NotBuilt, NoMode, Pair, TwoWords}
+
+-- ---- a bit that is not set is clear
+pub is-off : (n : ℕ) → (not (eqb (n % 2) 1) ≡ true) ↔ (n % 2 ≡ 0)
+is-off n = not-true so not-equal so (λ h. go (n % 2) (omega arith) h, λ e q. omega arith)
+  where
+    go : (r : ℕ) → r < 2 → (r ≡ 1 → ⊥) → r ≡ 0
+    go zero l h = refl
+    go (suc zero) l h = absurd (h refl)
+    go (suc (suc r)) l h = absurd (omega arith)
+
+pub not-built : (w : ℕ) → (bit 15 w && notBuilt (code w) ≡ true) ↔ NotBuilt w
+unfolding notBuilt
+not-built w = both-true so is-equal and (either-true so is-equal or (both-true so is-most and is-most))
+
+pub no-mode : (mode w : ℕ) → (not (bit 15 w) && eqb mode none ≡ true) ↔ NoMode mode w
+no-mode mode w = both-true so is-off (w / 2 ^ 15) and is-equal
+
+-- ---- which words have a second: by the code, and by the mode
+nor : {A : Type 0} → (A → ⊥) → (_≡_ {A = Bool} false true) ↔ A
+nor h = (λ e. absurd (apart (sym e)), λ a. absurd (h a))
+
+jumping : (w : ℕ) → (jumps (order w) ≡ true) ↔ (code w ≡ 12)
+unfolding order setsMode
+jumping w =
+    pick-keeps P (setsMode (code w)) (λ e. nor (not-twelve (both-true {s = leb 1 (code w)} .0 e .1)))
+    λ a. pick-keeps P (eqb (code w) 12) (λ e. (λ h. is-equal .0 e, λ h. refl))
+    λ b. let n = not-equal .0 b in pick-keeps P (eqb (code w) 13) (λ e. nor n)
+    λ c. pick-keeps P (eqb (code w) 14) (λ e. nor n)
+    λ d. pick-keeps P (bit 10 w) (λ e. nor n) (λ e. nor n)
+  where
+    P : Order → Type 0
+    P o = (jumps o ≡ true) ↔ (code w ≡ 12)
+
+    not-twelve : leb (code w) 6 ≡ true → code w ≡ 12 → ⊥
+    not-twelve e q = let l = leb-true (code w) 6 e in omega arith
+
+pairing : (mode w : ℕ) → (paired (item mode w) ≡ true) ↔ ((mode ≡ 2) ⊎ (mode ≡ 3))
+unfolding item
+pairing mode w =
+    pick-keeps P (eqb mode 1) (λ e. let one = eqb-true mode 1 e in nor (⊎-elim (λ q. omega arith) (λ q. omega arith)))
+    λ a. pick-keeps P (eqb mode 2) (λ e. (λ h. inl (is-equal .0 e), λ h. refl))
+    λ b. pick-keeps P (eqb mode 3) (λ e. (λ h. inr (is-equal .0 e), λ h. refl))
+    λ c. let n = ⊎-elim (not-equal .0 b) (not-equal .0 c) in pick-keeps P (eqb mode 4) (λ e. nor n)
+    λ d. pick-keeps P (eqb mode 5) (λ e. nor n) (λ e. nor n)
+  where
+    P : Item → Type 0
+    P it = (paired it ≡ true) ↔ ((mode ≡ 2) ⊎ (mode ≡ 3))
+
+pub is-pair : (mode w : ℕ) → (isPaired (decode mode w) ≡ true) ↔ Pair mode w
+unfolding decode
+is-pair mode w =
+    pick-keeps P (bit 15 w) (λ e. let on = eqb-true (w / 2 ^ 15 % 2) 1 e in nor (λ q. let off = q .0 in omega arith))
+    (λ e. pairing mode w so (λ h. (is-off (w / 2 ^ 15) .0 (not-true .1 e), h), λ q. q .1))
+  where
+    P : Instruction → Type 0
+    P i = (isPaired i ≡ true) ↔ Pair mode w
+
+pub has-second : (mode w : ℕ) → (hasSecond (decode mode w) ≡ true) ↔ TwoWords mode w
+unfolding decode
+has-second mode w =
+    pick-keeps P (bit 15 w) (λ e. let on = eqb-true (w / 2 ^ 15 % 2) 1 e in jumping w so (λ h. inl (on, h), ⊎-elim (λ q. q .1) (λ q. absurd (let off = q .0 in omega arith))))
+    (λ e. let off = is-off (w / 2 ^ 15) .0 (not-true .1 e) in pairing mode w so (λ h. inr (off, h), ⊎-elim (λ q. absurd (let on = q .0 in omega arith)) (λ q. q .1)))
+  where
+    P : Instruction → Type 0
+    P i = (hasSecond i ≡ true) ↔ TwoWords mode w
+
+-- ---- a status A
+pub is-status-a : (mode w : ℕ) → On 15 w → code w ≡ 14 → decode mode w ≡ Does (StatusA (record { loads = bit 9 w; latch = bit 8 w; stops = bit 10 w }))
+unfolding decode order setsMode
+is-status-a mode w on e = rw (eq-eqb _ _ on, e)

@@ -1,0 +1,4 @@
+pub mod Ledger
+pub mod Conditions
+pub mod Exact
+pub mod Graphs

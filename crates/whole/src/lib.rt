@@ -1,0 +1,1 @@
+// Laws on whole numbers, in specs/. No code.

@@ -1,0 +1,739 @@
+//! Random display files, each with its line, so that another account of the same
+//! processor can be held against this one.
+//!
+//! A reader of the line sees the picture only as a count of stores. So most programs
+//! draw across the edges of the field, where a pixel that is put wrongly is counted wrongly.
+
+use std::fmt;
+use std::iter;
+
+use crate::plot::{plot, Line};
+
+const SEGMENTS: u16 = 8;
+const SEGMENT_WORDS: u16 = 4_096;
+const SEGMENT_BYTES: u16 = 2 * SEGMENT_WORDS;
+
+/// A reader may be slow: no case stores more, and none but a loop takes more steps.
+const MOST_STORES: u64 = 600;
+const MOST_STEPS: u64 = 200;
+
+const NO_MODE: u16 = 0;
+const SHORT_VECTOR: u16 = 1;
+const LONG_VECTOR: u16 = 2;
+const ABSOLUTE_POINT: u16 = 3;
+const GRAPH_X: u16 = 4;
+const GRAPH_Y: u16 = 5;
+const RELATIVE_POINT: u16 = 6;
+
+const JUMP: u16 = 12;
+const NO_OP: u16 = 13;
+const STATUS_A: u16 = 14;
+const STATUS_C_OR_INCREMENT: u16 = 15;
+const NOT_BUILT: [u16; 6] = [0, 7, 8, 9, 10, 11];
+
+/// All bits but 15.
+const DATA: u16 = 0x7FFF;
+const LIT: u16 = 1 << 14;
+const MINUS: u16 = 1 << 13;
+const LONGEST_MOVE: i32 = 1_023;
+const LOWEST: i32 = -4_096;
+const HIGHEST: i32 = 4_095;
+
+/// The bytes of a file, and the line of `plot` for them.
+#[derive(Clone, Debug, PartialEq, Eq)]
+pub struct Case {
+    pub bytes: Vec<u8>,
+    pub line: Line,
+}
+
+/// The cases of a seed, without end.
+pub fn cases(seed: u64) -> impl Iterator<Item = Case> {
+    let mut random = Random(seed);
+    iter::repeat_with(move || case(&mut random))
+}
+
+impl fmt::Display for Case {
+    fn fmt(&self, f: &mut fmt::Formatter) -> fmt::Result {
+        if self.bytes.is_empty() {
+            write!(f, "-")?;
+        }
+        for byte in &self.bytes {
+            write!(f, "{:02x}", byte)?;
+        }
+        write!(f, " {}", self.line)
+    }
+}
+
+fn case(random: &mut Random) -> Case {
+    loop {
+        let kind = random.below(100);
+        let bytes = match kind {
+            0..=71 => bytes_of(&program(random)),
+            72..=77 => bytes_of(&noise(random)),
+            78..=80 => bytes_of(&repeated(random)),
+            81 => bytes_of(&wide(random)),
+            _ => damaged(random),
+        };
+        let line = plot(&bytes);
+        // Only the loops that are meant as such are known to be cheap.
+        let may_loop = (78..=80).contains(&kind);
+        if line.stores <= MOST_STORES && (may_loop || line.steps <= MOST_STEPS) {
+            return Case { bytes, line };
+        }
+    }
+}
+
+fn bytes_of(words: &[u16]) -> Vec<u8> {
+    words.iter().flat_map(|word| word.to_le_bytes()).collect()
+}
+
+/// A program of up to four pieces in as many segments, with other segments laid over them.
+fn program(random: &mut Random) -> Vec<u16> {
+    let pieces = 1 + random.below(4) * random.below(2);
+    let spare = random.below(SEGMENTS - pieces + 1) * random.below(2);
+    let count = pieces + spare;
+    let mut numbers: Vec<u16> = (1..count).collect();
+    random.shuffle(&mut numbers);
+    // The first piece stands where a fresh machine starts.
+    numbers.insert(0, 0);
+
+    let modes: &[u16] = if random.chance(8) {
+        &[]
+    } else {
+        &[
+            SHORT_VECTOR,
+            LONG_VECTOR,
+            ABSOLUTE_POINT,
+            GRAPH_X,
+            GRAPH_Y,
+            RELATIVE_POINT,
+        ]
+    };
+    let mut writer = Writer::new(random, modes, 70);
+    let mut segments = Vec::new();
+    for piece in 0..pieces {
+        let number = numbers[usize::from(piece)];
+        writer.address = number * SEGMENT_BYTES;
+        for _ in 0..1 + writer.random.below(1 + 6 / pieces) {
+            writer.passage();
+        }
+        if piece + 1 < pieces {
+            let next = numbers[usize::from(piece) + 1];
+            writer.jump(next * SEGMENT_BYTES);
+        } else {
+            writer.ending(count);
+        }
+        segments.push((number, writer.words.split_off(0)));
+    }
+    random.shuffle(&mut segments);
+    laid_out(random, count, segments)
+}
+
+/// The pieces in the given order, and a header. Numbers without a piece of their own get
+/// any part of the file.
+fn laid_out(random: &mut Random, count: u16, pieces: Vec<(u16, Vec<u16>)>) -> Vec<u16> {
+    let header = 2 + 2 * count;
+    let mut body = Vec::new();
+    let mut places = vec![None; usize::from(count)];
+    for (number, words) in pieces {
+        if random.chance(20) {
+            // Words between two pieces, in no segment or in one of those that overlap.
+            body.extend((0..1 + random.below(3)).map(|_| random.word()));
+        }
+        places[usize::from(number)] = Some((header + body.len() as u16, words.len() as u16));
+        body.extend(words);
+    }
+    let end = header + body.len() as u16;
+    let mut file = vec![1, count];
+    for place in places {
+        let (offset, length) = place.unwrap_or_else(|| {
+            let offset = random.between(header, end);
+            let length = random.between(0, end - offset);
+            (offset, if random.chance(25) { 0 } else { length })
+        });
+        file.extend([offset, length]);
+    }
+    file.extend(body);
+    file
+}
+
+/// A loop that the budget or the range ends. Nothing in it draws more than a point.
+fn repeated(random: &mut Random) -> Vec<u16> {
+    let (modes, lit): (&[u16], u16) = if random.chance(40) {
+        (&[SHORT_VECTOR, LONG_VECTOR], 0)
+    } else {
+        (&[ABSOLUTE_POINT, GRAPH_X, GRAPH_Y, RELATIVE_POINT], 50)
+    };
+    let mut writer = Writer::new(random, modes, lit);
+    for _ in 0..writer.random.below(3) {
+        writer.plain_passage();
+    }
+    let start = writer.here();
+    for _ in 0..writer.random.below(4) {
+        writer.plain_passage();
+    }
+    writer.jump(start);
+    let words = writer.words;
+    laid_out(random, 1, vec![(0, words)])
+}
+
+/// Words that nobody meant as a program, behind a mode so that some of them are obeyed.
+fn noise(random: &mut Random) -> Vec<u16> {
+    let mut words = vec![control(random.between(1, 6))];
+    for _ in 0..random.below(40) {
+        let word = random.word();
+        words.push(if random.chance(70) { word & DATA } else { word });
+    }
+    let count = random.between(1, SEGMENTS);
+    laid_out(random, count, vec![(0, words)])
+}
+
+/// A segment as long as one may be, so that a run goes over its end: into the next segment,
+/// into none, or from the last address to the first.
+fn wide(random: &mut Random) -> Vec<u16> {
+    let count = random.between(1, SEGMENTS);
+    let header = 2 + 2 * count;
+    let full = if random.chance(40) {
+        count - 1
+    } else {
+        random.below(count)
+    };
+    let mut writer = Writer::new(random, &[SHORT_VECTOR, LONG_VECTOR, GRAPH_Y], 20);
+
+    // A way back to address 0 is a loop; the long move ends it soon.
+    writer.set_mode(LONG_VECTOR);
+    let far = writer.random.between(500, 1_023);
+    writer.words.extend([far, 0]);
+    let left = 2 * writer.random.between(1, 5);
+    writer.jump((full * SEGMENT_BYTES).wrapping_add(SEGMENT_BYTES - left));
+    let entry = writer.words.len() as u16;
+    writer.passage();
+    writer.ending(count);
+    let exit = writer.words.len() as u16 - entry;
+    writer
+        .words
+        .resize(usize::from(SEGMENT_WORDS - left / 2), control(NO_OP));
+    while writer.words.len() < usize::from(SEGMENT_WORDS) {
+        if writer.random.chance(30) {
+            writer.order();
+        } else {
+            writer.item();
+        }
+    }
+    writer.words.truncate(usize::from(SEGMENT_WORDS));
+    let words = writer.words;
+
+    let mut file = vec![1, count];
+    for number in 0..count {
+        if number == full || number == 0 {
+            file.extend([header, SEGMENT_WORDS]);
+        } else {
+            file.extend([header + entry, exit]);
+        }
+    }
+    file.extend(words);
+    file
+}
+
+/// A file with something wrong in it, most often in the header.
+fn damaged(random: &mut Random) -> Vec<u8> {
+    let mut words = program(random);
+    for _ in 0..1 + random.below(5) / 4 {
+        damage_words(random, &mut words);
+    }
+    let mut bytes = bytes_of(&words);
+    match random.below(10) {
+        0 => bytes.push(random.word() as u8),
+        1 => bytes.truncate(usize::from(random.between(0, bytes.len() as u16))),
+        2 => bytes.truncate(usize::from(random.below(8))),
+        3 => {
+            let at = random.index(bytes.len());
+            if let Some(byte) = bytes.get_mut(at) {
+                *byte ^= 1 << random.below(8);
+            }
+        }
+        _ => {}
+    }
+    bytes
+}
+
+fn damage_words(random: &mut Random, words: &mut Vec<u16>) {
+    if words.len() < 4 {
+        return;
+    }
+    let end = words.len() as u16;
+    let header = 2 + 2 * words[1].clamp(1, SEGMENTS);
+    let pair = 2 + 2 * random.index(usize::from(header / 2 - 1));
+    if pair + 1 >= words.len() {
+        return;
+    }
+    let any = random.word();
+    match random.below(9) {
+        0 | 1 => words[0] = random.pick(&[0, 2, 256, 257, 0x8001, any]),
+        2 | 3 => words[1] = random.pick(&[0, 9, 10, 256, 257, 0x8001, any]),
+        4 => words.truncate(usize::from(random.below(header))),
+        5 => words[pair] = random.pick(&[0, 1, header - 1, any % header]),
+        6 => words[pair + 1] = (end + 1 + random.below(3)).saturating_sub(words[pair]),
+        7 => words[pair + 1] = random.pick(&[SEGMENT_WORDS, SEGMENT_WORDS + 1, u16::MAX, any]),
+        // An offset and a length whose sum is small once it is cut to 16 bits.
+        _ => {
+            words[pair] =
+                random.pick(&[0_u16.wrapping_sub(words[pair + 1]), u16::MAX, end, end + 1])
+        }
+    }
+}
+
+/// Writes the words of one segment after the other.
+struct Writer<'a> {
+    random: &'a mut Random,
+    /// The modes that it may set.
+    modes: &'static [u16],
+    /// How many items of a hundred are lit.
+    lit: u16,
+    mode: u16,
+    /// Where the words begin.
+    address: u16,
+    words: Vec<u16>,
+}
+
+impl<'a> Writer<'a> {
+    fn new(random: &'a mut Random, modes: &'static [u16], lit: u16) -> Writer<'a> {
+        Writer {
+            random,
+            modes,
+            lit,
+            mode: NO_MODE,
+            address: 0,
+            words: Vec::new(),
+        }
+    }
+
+    /// The address of the next word.
+    fn here(&self) -> u16 {
+        self.address + 2 * self.words.len() as u16
+    }
+
+    fn passage(&mut self) {
+        if self.modes.is_empty() {
+            return self.plain_passage();
+        }
+        match self.random.below(100) {
+            0..=14 => self.graph_over_the_edge(),
+            15..=34 => self.vectors_along_the_edge(),
+            35..=38 => self.brink(),
+            39..=44 => self.jump_ahead(),
+            _ => self.plain_passage(),
+        }
+    }
+
+    fn plain_passage(&mut self) {
+        if self.modes.is_empty() || self.random.chance(30) {
+            return self.order();
+        }
+        if self.mode == NO_MODE || self.random.chance(70) {
+            let mode = self.random.pick(self.modes);
+            self.set_mode(mode);
+        }
+        for _ in 0..1 + self.random.below(5) {
+            self.item();
+        }
+    }
+
+    /// A word with bit 15 set that neither sets a mode nor ends the run.
+    fn order(&mut self) {
+        match self.random.below(10) {
+            0..=2 => self.increment(),
+            3..=4 => self.status_c(),
+            5..=7 => {
+                let latch = self.random.below(4) << 8;
+                let unread = self.random.unread(0x00FF);
+                self.words.push(control(STATUS_A) | latch | unread);
+            }
+            _ => {
+                let unread = self.random.unread(0x07FF);
+                self.words.push(control(NO_OP) | unread);
+            }
+        }
+    }
+
+    fn set_mode(&mut self, mode: u16) {
+        let value = self.random.below(8) << 8;
+        let unread = self.random.unread(0x00FF);
+        self.words.push(control(mode) | value | unread);
+        self.mode = mode;
+    }
+
+    fn increment(&mut self) {
+        let sets = u16::from(self.random.chance(85)) << 6;
+        let size = self.random.small(9, 64);
+        let unread = self.random.unread(0x0380);
+        self.words
+            .push(control(STATUS_C_OR_INCREMENT) | sets | size | unread);
+    }
+
+    fn status_c(&mut self) {
+        let memory = if self.random.chance(70) {
+            0
+        } else {
+            self.random.below(4)
+        } << 8;
+        let write = u16::from(self.random.chance(70)) << 4;
+        let unread = self.random.unread(0x00EF);
+        self.words
+            .push(control(STATUS_C_OR_INCREMENT) | 1 << 10 | memory | write | unread);
+    }
+
+    fn jump(&mut self, target: u16) {
+        let unread = self.random.unread(0x07FF);
+        self.words.extend([control(JUMP) | unread, target]);
+    }
+
+    fn jump_ahead(&mut self) {
+        let skipped = self.random.below(5);
+        let target = self.here() + 4 + 2 * skipped;
+        self.jump(target);
+        for _ in 0..skipped {
+            let word = self.random.word();
+            self.words.push(word);
+        }
+    }
+
+    /// One or two words for the mode that was set last.
+    fn item(&mut self) {
+        let lit = if self.random.chance(self.lit) { LIT } else { 0 };
+        match self.mode {
+            SHORT_VECTOR | RELATIVE_POINT => {
+                let word = self.random.short_moves();
+                self.words.push(lit | word);
+            }
+            LONG_VECTOR => {
+                let first = self.random.long_move();
+                let second = self.random.long_move();
+                self.pair(lit | first, second, 0x1C00);
+            }
+            ABSOLUTE_POINT => {
+                let first = self.random.coordinate();
+                let second = self.random.coordinate();
+                self.pair(lit | first, second, 0x3C00);
+            }
+            _ => {
+                let word = self.random.coordinate();
+                let unread = self.random.unread(0x3C00);
+                self.words.push(lit | word | unread);
+            }
+        }
+    }
+
+    /// Two data words with chance in the bits that neither of them is asked for.
+    fn pair(&mut self, first: u16, second: u16, mask: u16) {
+        let unread = self.random.unread(mask);
+        self.words.push(first | unread);
+        let unread = self.random.unread(mask | LIT);
+        self.words.push(second | unread);
+    }
+
+    fn point(&mut self, x: u16, y: u16) {
+        self.set_mode(ABSOLUTE_POINT);
+        let lit = self.random.below(2) * LIT;
+        self.pair(lit | x, y, 0x3C00);
+    }
+
+    /// Points that come to the edge of the field by the increment.
+    fn graph_over_the_edge(&mut self) {
+        let near = self.random.between(1_010, 1_023);
+        let other = self.random.coordinate();
+        let mode = self.random.pick(&[GRAPH_X, GRAPH_Y]);
+        if mode == GRAPH_X {
+            self.point(other, near);
+        } else {
+            self.point(near, other);
+        }
+        self.increment();
+        self.set_mode(mode);
+        for _ in 0..2 + self.random.below(5) {
+            self.item();
+        }
+    }
+
+    /// Flat or steep vectors over the edge of the field: the place of each pixel tells.
+    fn vectors_along_the_edge(&mut self) {
+        let edge = self.random.pick(&[0, 1, 1_022, 1_023]);
+        let other = self.random.between(60, 960);
+        let flat = self.random.chance(50);
+        if flat {
+            self.point(other, edge);
+        } else {
+            self.point(edge, other);
+        }
+        self.set_mode(LONG_VECTOR);
+        for _ in 0..1 + self.random.below(4) {
+            let along = self.random.small(30, 60) | self.random.sign();
+            let across = self.random.small(4, 12) | self.random.sign();
+            let (x, y) = if flat {
+                (along, across)
+            } else {
+                (across, along)
+            };
+            self.pair(LIT | x, y, 0x1C00);
+        }
+    }
+
+    /// To the end of the range, where small moves stay in it or leave it.
+    fn brink(&mut self) {
+        let upward = self.random.chance(50);
+        let along_x = self.random.chance(50);
+        self.to_the_brink(upward, along_x);
+        let graph = if along_x { GRAPH_Y } else { GRAPH_X };
+        let mode = self.random.pick(&[SHORT_VECTOR, RELATIVE_POINT, graph]);
+        self.increment();
+        self.set_mode(mode);
+        for _ in 0..1 + self.random.below(3) {
+            if mode == graph {
+                self.item();
+            } else {
+                let size = self.random.below(4);
+                self.words.push(short_move(upward, along_x, size));
+            }
+        }
+    }
+
+    fn to_the_brink(&mut self, upward: bool, along_x: bool) {
+        let (x, y) = (self.random.coordinate(), self.random.coordinate());
+        self.point(x, y);
+        self.set_mode(LONG_VECTOR);
+        let from = i32::from(if along_x { x } else { y });
+        let distance = if upward {
+            HIGHEST - from
+        } else {
+            from - LOWEST
+        };
+        let mut rest = distance - i32::from(self.random.below(5));
+        while rest > 0 {
+            let size = rest.min(LONGEST_MOVE);
+            rest -= size;
+            let far = size as u16 | if upward { 0 } else { MINUS };
+            // Minus zero, half the time.
+            let stay = self.random.sign();
+            let (x, y) = if along_x { (far, stay) } else { (stay, far) };
+            self.pair(x, y, 0x1C00);
+        }
+    }
+
+    /// What ends the run, in a file of so many segments.
+    fn ending(&mut self, count: u16) {
+        if self.mode == NO_MODE && self.random.chance(70) {
+            let data = self.random.word() & DATA;
+            return self.words.push(data);
+        }
+        match self.random.below(100) {
+            0..=16 => self.stop(),
+            17..=31 => {
+                // The latch from an earlier word, not from the stop itself.
+                let load = 0x0200 | self.random.below(2) << 8;
+                let unread = self.random.unread(0x00FF);
+                self.words.push(control(STATUS_A) | load | unread);
+                self.stop();
+            }
+            32..=39 => {
+                let target = self.random.word() | 1;
+                self.jump(target);
+            }
+            40..=49 if count < SEGMENTS => {
+                let number = self.random.between(count, SEGMENTS - 1);
+                let place = self.random.small(10, SEGMENT_WORDS);
+                self.jump(number * SEGMENT_BYTES + 2 * place);
+            }
+            40..=54 => {
+                let target = self.here() + 4 + 2 * self.random.small(2, 100);
+                self.jump(target);
+            }
+            55..=62 => self.half_a_pair(),
+            63..=71 => {
+                let code = self.random.pick(&NOT_BUILT);
+                let unread = self.random.unread(0x07FF);
+                self.words.push(control(code) | unread);
+            }
+            72..=80 => {
+                self.half_a_pair();
+                let second = self.random.word() | 1 << 15;
+                self.words.push(second);
+            }
+            81..=91 => {
+                let upward = self.random.chance(50);
+                let along_x = self.random.chance(50);
+                self.to_the_brink(upward, along_x);
+                self.set_mode(SHORT_VECTOR);
+                let size = self.random.between(5, 63);
+                self.words.push(LIT | short_move(upward, along_x, size));
+            }
+            _ => {
+                // Anywhere: perhaps into a second word, an empty segment, or none.
+                let number = self.random.below(SEGMENTS);
+                let place = self.random.below(40);
+                self.jump(number * SEGMENT_BYTES + 2 * place);
+            }
+        }
+    }
+
+    fn stop(&mut self) {
+        let latch = self.random.below(4) << 8;
+        let unread = self.random.unread(0x00FF);
+        self.words
+            .push(control(STATUS_A) | 1 << 10 | latch | unread);
+    }
+
+    /// The first word of an item of two words.
+    fn half_a_pair(&mut self) {
+        let mode = self.random.pick(&[LONG_VECTOR, ABSOLUTE_POINT]);
+        self.set_mode(mode);
+        let first = self.random.word() & DATA;
+        self.words.push(first);
+    }
+}
+
+fn control(code: u16) -> u16 {
+    1 << 15 | code << 11
+}
+
+/// An unlit move of modes 1 and 6 along one axis.
+fn short_move(upward: bool, along_x: bool, size: u16) -> u16 {
+    let minus = u16::from(!upward);
+    if along_x {
+        minus << 13 | size << 7
+    } else {
+        minus << 6 | size
+    }
+}
+
+/// The generator of chance (splitmix64); every seed is a good one.
+struct Random(u64);
+
+impl Random {
+    fn next(&mut self) -> u64 {
+        self.0 = self.0.wrapping_add(0x9E37_79B9_7F4A_7C15);
+        let mut mixed = self.0;
+        mixed = (mixed ^ mixed >> 30).wrapping_mul(0xBF58_476D_1CE4_E5B9);
+        mixed = (mixed ^ mixed >> 27).wrapping_mul(0x94D0_49BB_1331_11EB);
+        mixed ^ mixed >> 31
+    }
+
+    fn word(&mut self) -> u16 {
+        self.next() as u16
+    }
+
+    /// A number below a limit.
+    fn below(&mut self, limit: u16) -> u16 {
+        (self.next() % u64::from(limit)) as u16
+    }
+
+    /// A number from `low` to `high`, both included.
+    fn between(&mut self, low: u16, high: u16) -> u16 {
+        low + self.below(high - low + 1)
+    }
+
+    /// Below `usual` most of the time, else below `limit`.
+    fn small(&mut self, usual: u16, limit: u16) -> u16 {
+        let limit = if self.chance(85) { usual } else { limit };
+        self.below(limit)
+    }
+
+    fn chance(&mut self, percent: u16) -> bool {
+        self.below(100) < percent
+    }
+
+    fn pick(&mut self, choices: &[u16]) -> u16 {
+        choices[self.index(choices.len())]
+    }
+
+    fn index(&mut self, length: usize) -> usize {
+        (self.next() % length.max(1) as u64) as usize
+    }
+
+    fn shuffle<T>(&mut self, items: &mut [T]) {
+        for last in (1..items.len()).rev() {
+            items.swap(last, self.index(last + 1));
+        }
+    }
+
+    /// Anything or nothing in bits that are not read.
+    fn unread(&mut self, mask: u16) -> u16 {
+        if self.chance(50) {
+            0
+        } else {
+            self.word() & mask
+        }
+    }
+
+    /// The sign of a long move.
+    fn sign(&mut self) -> u16 {
+        self.below(2) * MINUS
+    }
+
+    fn short_moves(&mut self) -> u16 {
+        let x = self.sign() | self.small(10, 64) << 7;
+        let y = self.sign() >> 7 | self.small(10, 64);
+        x | y
+    }
+
+    fn long_move(&mut self) -> u16 {
+        let limit = if self.chance(10) { 1_024 } else { 80 };
+        self.sign() | self.small(16, limit)
+    }
+
+    /// A coordinate, most often near an end of the field.
+    fn coordinate(&mut self) -> u16 {
+        match self.below(3) {
+            0 => self.below(4),
+            1 => self.between(1_018, 1_023),
+            _ => self.below(1_024),
+        }
+    }
+}
+
+#[cfg(test)]
+mod tests {
+    use super::*;
+
+    fn first(seed: u64, count: usize) -> Vec<Case> {
+        cases(seed).take(count).collect()
+    }
+
+    #[test]
+    fn a_seed_decides_the_cases() {
+        assert_eq!(first(7, 100), first(7, 100));
+        assert_ne!(first(7, 100), first(8, 100));
+    }
+
+    #[test]
+    fn every_answer_of_plot_occurs() {
+        let cases = first(1, 2_000);
+        for answer in [0, 1, 2, 12, 13, 14, 15, 19].into_iter().chain(21..=27) {
+            let times = cases
+                .iter()
+                .filter(|case| case.line.answer == answer)
+                .count();
+            assert!(times >= 10, "answer {} occurs {} times", answer, times);
+        }
+    }
+
+    #[test]
+    fn runs_are_neither_trivial_nor_costly() {
+        let lines: Vec<Line> = cases(2).take(2_000).map(|case| case.line).collect();
+        let count = |holds: fn(&Line) -> bool| lines.iter().filter(|&line| holds(line)).count();
+        assert_eq!(count(|line| line.stores > MOST_STORES), 0);
+        assert!(count(|line| line.steps > MOST_STEPS) < 100);
+        assert!(count(|line| line.steps >= 8) > 1_000);
+        assert!(count(|line| line.stores > 10) > 500);
+        assert!(count(|line| line.x < 0 || line.y < 0) > 100);
+    }
+
+    #[test]
+    fn a_case_is_printed_as_hex_and_its_line() {
+        let case = |bytes: &[u8]| Case {
+            bytes: bytes.to_vec(),
+            line: plot(bytes),
+        };
+        assert_eq!(case(&[]).to_string(), "- 12 0 0 0 0 0 0");
+        assert_eq!(case(&[2, 0, 171, 9]).to_string(), "0200ab09 13 0 0 0 0 0 0");
+    }
+}

@@ -1,0 +1,22 @@
+//! An interpreter of display files for a raster display of 512 by 512 pixels.
+//!
+//! It serves as a yardstick: it is written from the definition of the display
+//! processor alone, so that another implementation can be compared with it.
+
+mod answer;
+pub mod cases;
+mod file;
+mod image;
+mod machine;
+pub mod plot;
+mod run;
+mod unit;
+pub mod vector;
+mod word;
+
+pub use answer::{Answer, Door, Fault};
+pub use file::check;
+pub use image::{clear, read_pixel, IMAGE_BYTES};
+pub use machine::{fresh, start, Machine, NO_MODE};
+pub use run::{run, step, Outcome, BUDGET_LIMIT};
+pub use unit::{Pixel, Place, Position, Unit};

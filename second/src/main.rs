@@ -1,0 +1,68 @@
+//! The command: `second plot` reads a display file and prints its line, and
+//! `second cases SEED COUNT` prints random files with theirs.
+
+use std::env;
+use std::io::{self, BufWriter, Read, Write};
+use std::process::ExitCode;
+
+use second::cases::cases;
+use second::plot::{plot, INPUT_LIMIT};
+
+/// What the arguments ask for.
+enum Task {
+    Plot,
+    Cases { seed: u64, count: usize },
+}
+
+fn main() -> ExitCode {
+    let task = match task() {
+        Some(task) => task,
+        None => {
+            eprintln!(
+                "Call it as `second plot`, with a display file on standard input, \
+                 or as `second cases SEED COUNT`, with two whole numbers."
+            );
+            return ExitCode::from(2);
+        }
+    };
+    let done = match task {
+        Task::Plot => plot_standard_input(),
+        Task::Cases { seed, count } => print_cases(seed, count),
+    };
+    match done {
+        Ok(()) => ExitCode::SUCCESS,
+        Err(error) => {
+            eprintln!("The program failed: {}.", error);
+            ExitCode::FAILURE
+        }
+    }
+}
+
+fn task() -> Option<Task> {
+    let arguments: Vec<_> = env::args_os().skip(1).collect();
+    let arguments: Option<Vec<_>> = arguments.iter().map(|word| word.to_str()).collect();
+    match arguments?.as_slice() {
+        ["plot"] => Some(Task::Plot),
+        ["cases", seed, count] => Some(Task::Cases {
+            seed: seed.parse().ok()?,
+            count: count.parse().ok()?,
+        }),
+        _ => None,
+    }
+}
+
+fn plot_standard_input() -> io::Result<()> {
+    let mut bytes = Vec::new();
+    // One byte past the limit is enough to see that the input is too long.
+    let most = INPUT_LIMIT as u64 + 1;
+    io::stdin().lock().take(most).read_to_end(&mut bytes)?;
+    writeln!(io::stdout(), "{}", plot(&bytes))
+}
+
+fn print_cases(seed: u64, count: usize) -> io::Result<()> {
+    let mut output = BufWriter::new(io::stdout().lock());
+    for case in cases(seed).take(count) {
+        writeln!(output, "{}", case)?;
+    }
+    output.flush()
+}

@@ -1,0 +1,12 @@
+//! The tests of the definition, one module for each of its parts.
+
+mod answers;
+mod cases;
+mod drift;
+mod edges;
+mod layouts;
+mod manuals;
+mod program;
+mod readings;
+mod runs;
+mod support;

@@ -1,0 +1,82 @@
+#!/bin/sh
+# The definition against the second interpreter: random display files, for each of which the prover computes the line of
+# `plot` by the definition and finds it equal to the line that second prints. SEED=n repeats a run.
+set -eu
+cd "$(dirname "$0")/.."
+seed=${SEED:-$(date +%s)}
+count=800
+# One statement for many files, since the prover then computes once what they share; a statement for all would take too much memory.
+group=25
+
+echo "definition: seed $seed"
+export CARGO_TARGET_DIR="$PWD/target/second"
+cargo build --quiet --release --offline --manifest-path second/Cargo.toml
+work=$(mktemp -d)
+trap 'rm -rf "$work"' EXIT
+trap 'exit 1' HUP INT TERM
+"$CARGO_TARGET_DIR/release/second" cases "$seed" "$count" >"$work/cases"
+[ "$(wc -l <"$work/cases")" -eq "$count" ] || { echo "definition: second did not print $count files"; exit 1; }
+
+# A repository of its own. Of the definition's proofs only the one that opens the rules: where a rule is changed the
+# others fail before any file is compared, and they are checked with the crate itself.
+mkdir -p "$work/crates/definition/proofs" "$work/crates/agree/src" "$work/crates/agree/proofs"
+cp -R crates/whole "$work/crates/whole"
+cp -R crates/definition/src crates/definition/specs "$work/crates/definition"
+cp crates/definition/proofs/Opened.antt "$work/crates/definition/proofs/Opened.antt"
+rm -rf "$work/crates/whole/must-fail"
+echo 'pub mod Opened' >"$work/crates/definition/proofs/Lib.antt"
+echo 'pub mod Files' >"$work/crates/agree/proofs/Lib.antt"
+echo '// What second prints for random files, in proofs/. No code.' >"$work/crates/agree/src/lib.rt"
+grep -E '^(whole|definition):' crates.txt >"$work/crates.txt"
+echo 'agree: definition whole' >>"$work/crates.txt"
+git init -q "$work"
+
+# FIRST LAST SIZE: states these cases, SIZE of them to a statement, which has the number of its first case; then proves them.
+agree() {
+    awk -v first="$1" -v last="$2" -v size="$3" '
+        function whole(n) { return n < 0 ? "negsuc " (-n - 1) : "pos " n }
+        function state() {
+            # print, since printf has a limit in some awks
+            if (left != "") print "\npub files" from " : (" left "[]) ≡ " right "[]\nunfolding rules\nfiles" from " = refl"
+            left = right = ""
+        }
+        BEGIN {
+            print "use mathlib.Core.Path.{_≡_, refl}"
+            print "use mathlib.Core.List.{[], _∷_}"
+            print "use lib.IntN.{pos, negsuc}"
+            print "use Rattle.definition.specs.Plot.{plotLine}"
+            print "use Rattle.definition.proofs.Opened.{rules}"
+        }
+        NR < first || NR > last { next }
+        {
+            if (left == "") from = NR
+            bytes = line = ""
+            if ($1 != "-") for (i = 1; i < length($1); i += 2) bytes = bytes "0x" substr($1, i, 2) " ∷ "
+            for (i = 2; i <= NF; i++) line = line whole($i) " ∷ "
+            left = left "plotLine (" bytes "[]) ∷ "
+            right = right "(" line "[]) ∷ "
+        }
+        (NR - first + 1) % size == 0 { state() }
+        END { state() }' "$work/cases" >"$work/crates/agree/proofs/Files.antt" || return 2
+    (cd "$work" && rt check agree) >"$work/out" 2>&1
+}
+
+# The number of the first statement that was refused, if any was.
+refused() { sed -n 's/.*Files\.antt:[0-9:]* error: `files\([0-9][0-9]*\)`.*/\1/p' "$work/out" | sort -n | head -n 1; }
+
+if agree 1 "$count" "$group"; then
+    echo "definition: $count random files agree with second (seed $seed)"
+    exit 0
+fi
+first=$(refused)
+if [ -n "$first" ] && ! agree "$first" $((first + group - 1)) 1; then
+    first=$(refused)
+fi
+if [ -z "$first" ]; then
+    tail -n 20 "$work/out"
+    echo "definition: the prover compared nothing (seed $seed)"
+    exit 1
+fi
+echo "definition: file $first differs (seed $seed); its bytes, and what second says:"
+sed -n "${first}p" "$work/cases"
+exit 1
