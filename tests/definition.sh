@@ -4,7 +4,7 @@
 set -eu
 cd "$(dirname "$0")/.."
 seed=${SEED:-$(date +%s)}
-count=800
+count=600
 # One statement for many files, since the prover then computes once what they share; a statement for all would take too much memory.
 group=25
 
@@ -13,7 +13,7 @@ export CARGO_TARGET_DIR="$PWD/target/second"
 cargo build --quiet --release --offline --manifest-path second/Cargo.toml
 work=$(mktemp -d)
 trap 'rm -rf "$work"' EXIT
-trap 'exit 1' HUP INT TERM
+trap 'exit 1' HUP INT PIPE TERM
 "$CARGO_TARGET_DIR/release/second" cases "$seed" "$count" >"$work/cases"
 [ "$(wc -l <"$work/cases")" -eq "$count" ] || { echo "definition: second did not print $count files"; exit 1; }
 

@@ -6,6 +6,7 @@
 
 use std::fmt;
 use std::iter;
+use std::mem;
 
 use crate::plot::{plot, Line};
 
@@ -66,18 +67,20 @@ impl fmt::Display for Case {
 
 fn case(random: &mut Random) -> Case {
     loop {
-        let kind = random.below(100);
-        let bytes = match kind {
-            0..=71 => bytes_of(&program(random)),
-            72..=77 => bytes_of(&noise(random)),
-            78..=80 => bytes_of(&repeated(random)),
-            81 => bytes_of(&wide(random)),
+        let mut most_steps = MOST_STEPS;
+        let bytes = match random.below(100) {
+            0..=70 => bytes_of(&program(random)),
+            71..=76 => bytes_of(&noise(random)),
+            77..=79 => {
+                // A loop that came about by chance may draw at length in each round; these do not.
+                most_steps = u64::MAX;
+                bytes_of(&repeated(random))
+            }
+            80..=81 => bytes_of(&wide(random)),
             _ => damaged(random),
         };
         let line = plot(&bytes);
-        // Only the loops that are meant as such are known to be cheap.
-        let may_loop = (78..=80).contains(&kind);
-        if line.stores <= MOST_STORES && (may_loop || line.steps <= MOST_STEPS) {
+        if line.stores <= MOST_STORES && line.steps <= most_steps {
             return Case { bytes, line };
         }
     }
@@ -123,7 +126,7 @@ fn program(random: &mut Random) -> Vec<u16> {
         } else {
             writer.ending(count);
         }
-        segments.push((number, writer.words.split_off(0)));
+        segments.push((number, mem::take(&mut writer.words)));
     }
     random.shuffle(&mut segments);
     laid_out(random, count, segments)
@@ -205,7 +208,7 @@ fn wide(random: &mut Random) -> Vec<u16> {
     let far = writer.random.between(500, 1_023);
     writer.words.extend([far, 0]);
     let left = 2 * writer.random.between(1, 5);
-    writer.jump((full * SEGMENT_BYTES).wrapping_add(SEGMENT_BYTES - left));
+    writer.jump(full * SEGMENT_BYTES + (SEGMENT_BYTES - left));
     let entry = writer.words.len() as u16;
     writer.passage();
     writer.ending(count);
@@ -223,15 +226,18 @@ fn wide(random: &mut Random) -> Vec<u16> {
     writer.words.truncate(usize::from(SEGMENT_WORDS));
     let words = writer.words;
 
+    // The file has room for one word more, so that nothing but its length can speak against it.
+    let length = SEGMENT_WORDS + u16::from(random.chance(20));
     let mut file = vec![1, count];
     for number in 0..count {
         if number == full || number == 0 {
-            file.extend([header, SEGMENT_WORDS]);
+            file.extend([header, length]);
         } else {
             file.extend([header + entry, exit]);
         }
     }
     file.extend(words);
+    file.push(control(NO_OP));
     file
 }
 
@@ -275,10 +281,10 @@ fn damage_words(random: &mut Random, words: &mut Vec<u16>) {
         5 => words[pair] = random.pick(&[0, 1, header - 1, any % header]),
         6 => words[pair + 1] = (end + 1 + random.below(3)).saturating_sub(words[pair]),
         7 => words[pair + 1] = random.pick(&[SEGMENT_WORDS, SEGMENT_WORDS + 1, u16::MAX, any]),
-        // An offset and a length whose sum is small once it is cut to 16 bits.
         _ => {
-            words[pair] =
-                random.pick(&[0_u16.wrapping_sub(words[pair + 1]), u16::MAX, end, end + 1])
+            // With this one the sum is 0 once it is cut to 16 bits.
+            let round = words[pair + 1].wrapping_neg();
+            words[pair] = random.pick(&[round, u16::MAX, end, end + 1]);
         }
     }
 }
@@ -314,20 +320,18 @@ impl<'a> Writer<'a> {
     }
 
     fn passage(&mut self) {
-        if self.modes.is_empty() {
-            return self.plain_passage();
-        }
         match self.random.below(100) {
-            0..=14 => self.graph_over_the_edge(),
-            15..=34 => self.vectors_along_the_edge(),
-            35..=38 => self.brink(),
-            39..=44 => self.jump_ahead(),
+            0..=5 => self.jump_ahead(),
+            _ if self.modes.is_empty() => self.order(),
+            6..=20 => self.graph_over_the_edge(),
+            21..=40 => self.vectors_along_the_edge(),
+            41..=44 => self.brink(),
             _ => self.plain_passage(),
         }
     }
 
     fn plain_passage(&mut self) {
-        if self.modes.is_empty() || self.random.chance(30) {
+        if self.random.chance(30) {
             return self.order();
         }
         if self.mode == NO_MODE || self.random.chance(70) {
@@ -482,7 +486,7 @@ impl<'a> Writer<'a> {
     fn brink(&mut self) {
         let upward = self.random.chance(50);
         let along_x = self.random.chance(50);
-        self.to_the_brink(upward, along_x);
+        self.reach_the_brink(upward, along_x);
         let graph = if along_x { GRAPH_Y } else { GRAPH_X };
         let mode = self.random.pick(&[SHORT_VECTOR, RELATIVE_POINT, graph]);
         self.increment();
@@ -497,7 +501,7 @@ impl<'a> Writer<'a> {
         }
     }
 
-    fn to_the_brink(&mut self, upward: bool, along_x: bool) {
+    fn reach_the_brink(&mut self, upward: bool, along_x: bool) {
         let (x, y) = (self.random.coordinate(), self.random.coordinate());
         self.point(x, y);
         self.set_mode(LONG_VECTOR);
@@ -561,7 +565,7 @@ impl<'a> Writer<'a> {
             81..=91 => {
                 let upward = self.random.chance(50);
                 let along_x = self.random.chance(50);
-                self.to_the_brink(upward, along_x);
+                self.reach_the_brink(upward, along_x);
                 self.set_mode(SHORT_VECTOR);
                 let size = self.random.between(5, 63);
                 self.words.push(LIT | short_move(upward, along_x, size));

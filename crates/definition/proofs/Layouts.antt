@@ -8,7 +8,7 @@ use Rattle.definition.specs.declared.Instruction.the-variants.{Does, Dra
 use Rattle.definition.specs.declared.Order.the-variants.{SetMode, Jump, NoOp, StatusA, Increment, StatusC}
 use Rattle.definition.specs.declared.Item.the-variants.{ShortVector, LongVector, AbsolutePoint, GraphX, GraphY, RelativePoint}
 use Rattle.definition.proofs.Opened.{rules}
-use Rattle.definition.proofs.Worked.{Case, reads, steps, All, holding, inMode, to, afterSteps, stored, dot}
+use Rattle.definition.proofs.Worked.{Case, reads, steps, Hold, holding, inMode, to, afterSteps, stored, dot}
 
 unfoldable pub layouts : List Case
 layouts =
@@ -37,14 +37,17 @@ layouts =
     ∷ reads 4 0o036000 (Draws false (GraphX (units (pos 0))))
     ∷ reads 5 0o041777 (Draws true (GraphY (units (pos 1023))))
     ∷ reads 5 0o036000 (Draws false (GraphY (units (pos 0))))
+    -- a coordinate has no sign: bit 13 beside one is not read
+    ∷ reads 3 0o077777 (Draws true (AbsolutePoint (units (pos 1023))))
+    ∷ reads 4 0o077777 (Draws true (GraphX (units (pos 1023))))
+    ∷ reads 5 0o077777 (Draws true (GraphY (units (pos 1023))))
     ∷ reads 6 0o077600 (Draws true (RelativePoint (units (negsuc 62)) (units (pos 0))))
     ∷ reads 6 0o000177 (Draws false (RelativePoint (units (pos 0)) (units (negsuc 62))))
     ∷ []
 
-pub all-layouts : All layouts
+pub all-layouts : Hold layouts
 unfolding rules layouts
-all-layouts =
-    (refl, (refl, (refl, (refl, (refl, (refl, (refl, (refl, (refl, (refl, (refl, (refl, (refl, (refl, (refl, (refl, (refl, (refl, (refl, (refl, (refl, (refl, (refl, (refl, (refl, (refl, (refl, tt)))))))))))))))))))))))))))
+all-layouts = refl
 
 -- second words: bit 14 and the bits above the size are not read; in mode 3 the sign bit is not read either
 unfoldable pub seconds : List Case
@@ -53,8 +56,9 @@ seconds =
     ∷ steps (holding (0o000000 ∷ 0o056000 ∷ [])) 1 (inMode 2 (pos 6) (pos 8)) (to (inMode 2 (pos 6) (pos 8)) 4 (pos 6) (pos 8)) []
     ∷ steps (holding (0o040000 ∷ 0o001777 ∷ [])) 1 (inMode 3 (pos 6) (pos 8)) (to (inMode 3 (pos 6) (pos 8)) 4 (pos 0) (pos 1023)) (dot 0 511 ∷ [])
     ∷ steps (holding (0o000000 ∷ 0o076000 ∷ [])) 1 (inMode 3 (pos 6) (pos 8)) (to (inMode 3 (pos 6) (pos 8)) 4 (pos 0) (pos 0)) []
+    ∷ steps (holding (0o000000 ∷ 0o077777 ∷ [])) 1 (inMode 3 (pos 6) (pos 8)) (to (inMode 3 (pos 6) (pos 8)) 4 (pos 0) (pos 1023)) []
     ∷ []
 
-pub all-seconds : All seconds
+pub all-seconds : Hold seconds
 unfolding rules seconds afterSteps stored
-all-seconds = ((refl, refl), ((refl, refl), ((refl, refl), ((refl, refl), tt))))
+all-seconds = refl

@@ -10,8 +10,8 @@ use Rattle.definition.specs.Machine.{inRange, isMode, isStatus, ranged, 
 use Rattle.definition.specs.Step.{ordered, done, wayRefusals, refusals, refusal, step}
 use Rattle.definition.specs.Run.{run}
 use Rattle.definition.specs.Calls.{imageDoors, budgetDoors, runningDoors, fieldDoors, checkCall, startCall, runDoors, runDoor, runCall, clearCall, readCall}
-use Rattle.definition.specs.Plot.{wordsIn, inputDoors, plotLine}
+use Rattle.definition.specs.Plot.{wordsIn, inputDoors, plotLine, figures, printed, text, plotText}
 
 unfoldable pub rules : ℕ
-unfolding firstOf pixelsOf moved pixelAt inField inside byteOf digit putDigit digitAt store stores keeps keepBelow headDoors segmentDoors fileDoors fetch fetchRefusals setsMode notBuilt order move item decode firstRefusals secondRefusals longer byOne rounded nth numbered vector inRange isMode isStatus ranged machineDoors ordered done wayRefusals refusals refusal step run imageDoors budgetDoors runningDoors fieldDoors checkCall startCall runDoors runDoor runCall clearCall readCall wordsIn inputDoors plotLine
+unfolding firstOf pixelsOf moved pixelAt inField inside byteOf digit putDigit digitAt store stores keeps keepBelow headDoors segmentDoors fileDoors fetch fetchRefusals setsMode notBuilt order move item decode firstRefusals secondRefusals longer byOne rounded nth numbered vector inRange isMode isStatus ranged machineDoors ordered done wayRefusals refusals refusal step run imageDoors budgetDoors runningDoors fieldDoors checkCall startCall runDoors runDoor runCall clearCall readCall wordsIn inputDoors plotLine figures printed text plotText
 rules = 0

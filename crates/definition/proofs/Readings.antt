@@ -10,7 +10,7 @@ use Rattle.definition.specs.Machine.{fresh, withCounter, withMode, withW
 use Rattle.definition.specs.Calls.{plain, given}
 use Rattle.definition.specs.declared.Machine.{Machine}
 use Rattle.definition.proofs.Opened.{rules}
-use Rattle.definition.proofs.Worked.{Case, between, steps, All, holding, eightTimes, inMode, to, of, dot, afterSteps, stored}
+use Rattle.definition.proofs.Worked.{Case, between, steps, Hold, holding, eightTimes, inMode, to, of, dot, afterSteps, stored}
 
 -- a machine in a mode at (10, 10) with increment 4
 abbrev graphing : ℕ → Machine
@@ -31,9 +31,9 @@ graphs =
     ∷ steps (holding (0o040100 ∷ [])) 1 (inMode 5 (pos 4095) (pos 0)) (to (inMode 5 (pos 4095) (pos 0)) 2 (pos 4095) (pos 64)) []
     ∷ []
 
-pub all-graphs : All graphs
+pub all-graphs : Hold graphs
 unfolding rules graphs afterSteps stored
-all-graphs = ((refl, refl), ((refl, refl), ((refl, refl), ((refl, refl), ((refl, refl), ((refl, refl), ((refl, refl), ((refl, refl), tt))))))))
+all-graphs = refl
 
 unfoldable pub moves : List Case
 moves =
@@ -56,10 +56,9 @@ moves =
     ∷ steps (holding (0o062002 ∷ [])) 1 (inMode 1 (pos 4) (pos 0)) (to (inMode 1 (pos 4) (pos 0)) 2 (negsuc 3) (pos 2)) (dot 2 0 ∷ dot 1 0 ∷ dot 0 1 ∷ [])
     ∷ []
 
-pub all-moves : All moves
+pub all-moves : Hold moves
 unfolding rules moves afterSteps stored
-all-moves =
-    ((refl, refl), ((refl, refl), ((refl, refl), ((refl, refl), ((refl, refl), ((refl, refl), ((refl, refl), ((refl, refl), ((refl, refl), ((refl, refl), ((refl, refl), tt)))))))))))
+all-moves = refl
 
 -- vectors by their pixels: a half goes up whichever way the pen goes, on either axis and below zero
 
@@ -74,9 +73,9 @@ vectors =
     ∷ between (dot 0 0) (dot 3 1) (dot 0 0 ∷ dot 1 0 ∷ dot 2 1 ∷ dot 3 1 ∷ [])
     ∷ []
 
-pub all-vectors : All vectors
+pub all-vectors : Hold vectors
 unfolding rules vectors
-all-vectors = (refl, (refl, (refl, (refl, (refl, (refl, (refl, tt)))))))
+all-vectors = refl
 
 unfoldable pub orders : List Case
 orders =
@@ -94,11 +93,13 @@ orders =
     ∷ steps (holding (0o174050 ∷ [])) 1 (withIncrement fresh 7) (withCounter (withIncrement fresh 7) 2) []
     ∷ steps (holding (0o176000 ∷ [])) 1 fresh (withCounter (withWrite fresh false) 2) []
     ∷ steps (holding (0o176400 ∷ [])) 1 fresh (withCounter fresh 2) []
+    -- two segments, the second before the first in the file: each word by its own segment's offset
+    ∷ steps (given (plain (1 ∷ 2 ∷ 8 ∷ 2 ∷ 6 ∷ 2 ∷ 0o164000 ∷ 0o171400 ∷ 0o164000 ∷ 0o111000 ∷ []))) 1 (withCounter fresh 2) (withCounter (withMode fresh 2 3) 4) []
+    ∷ steps (given (plain (1 ∷ 2 ∷ 8 ∷ 2 ∷ 6 ∷ 2 ∷ 0o164000 ∷ 0o171400 ∷ 0o164000 ∷ 0o111000 ∷ []))) 1 (withCounter fresh 8194) (withLatch (withCounter fresh 8196) true) []
     -- two words across the end of the address space
     ∷ steps (given (plain (eightTimes (replicate 4096 0)))) 1 (to (inMode 2 (pos 0) (pos 0)) 65534 (pos 6) (pos 8)) (to (inMode 2 (pos 0) (pos 0)) 2 (pos 6) (pos 8)) []
     ∷ []
 
-pub all-orders : All orders
+pub all-orders : Hold orders
 unfolding rules orders afterSteps stored
-all-orders =
-    ((refl, refl), ((refl, refl), ((refl, refl), ((refl, refl), ((refl, refl), ((refl, refl), ((refl, refl), ((refl, refl), ((refl, refl), ((refl, refl), ((refl, refl), ((refl, refl), tt))))))))))))
+all-orders = refl

@@ -4,12 +4,12 @@ use mathlib.Core.Bool.{true, false}
 use mathlib.Core.Path.{_≡_, refl}
 use mathlib.Core.List.{List, [], _∷_}
 use lib.ListN.{getD, take, replicate}
-use lib.IntN.{ℤ, pos}
+use lib.IntN.{ℤ, pos, negsuc}
 use Rattle.definition.specs.Image.{square, blank, left, Left}
 use Rattle.definition.specs.Machine.{fresh, withCounter, withWrite, withLatch, withIncrement, withStatus}
-use Rattle.definition.specs.Calls.{plain, given, startCall, runCall, turnedAway, clearCall, readCall}
+use Rattle.definition.specs.Calls.{plain, given, startCall, runCall, stepCall, turnedAway, clearCall, readCall}
 use Rattle.definition.specs.Run.{begun, run}
-use Rattle.definition.specs.Plot.{wordsIn, ranLine, refusedLine, plotLine}
+use Rattle.definition.specs.Plot.{wordsIn, ranLine, refusedLine, plotLine, text, plotText}
 use Rattle.definition.specs.declared.Machine.{Machine}
 use Rattle.definition.specs.declared.Ran.{Ran}
 use Rattle.definition.proofs.Opened.{rules}
@@ -22,6 +22,15 @@ listed = 0x01 ∷ 0x00 ∷ 0x01 ∷ 0x00 ∷ 0x04 ∷ 0x00 ∷ 0x04 ∷ 0x00 ∷
 pub plot-listed : plotLine listed ≡ pos 1 ∷ pos 3 ∷ pos 4 ∷ pos 4 ∷ pos 8 ∷ pos 6 ∷ pos 4 ∷ []
 unfolding rules
 plot-listed = refl
+
+-- the line as it is printed, in ASCII; and one with a number below zero and numbers of more than one figure
+pub plot-text : plotText listed ≡ 49 ∷ 32 ∷ 51 ∷ 32 ∷ 52 ∷ 32 ∷ 52 ∷ 32 ∷ 56 ∷ 32 ∷ 54 ∷ 32 ∷ 52 ∷ 10 ∷ []
+unfolding rules
+plot-text = refl
+
+pub printed-so : text (pos 1000 ∷ negsuc 4095 ∷ pos 0 ∷ []) ≡ 49 ∷ 48 ∷ 48 ∷ 48 ∷ 32 ∷ 45 ∷ 52 ∷ 48 ∷ 57 ∷ 54 ∷ 32 ∷ 48 ∷ 10 ∷ []
+unfolding rules
+printed-so = refl
 
 -- 19 speaks before the file's doors, and an empty input is a file of no words
 pub plot-refused : (plotLine (2 ∷ []) ∷ plotLine (replicate 65538 0) ∷ plotLine [] ∷ plotLine (2 ∷ 0 ∷ 9 ∷ 0 ∷ []) ∷ [])
@@ -41,6 +50,11 @@ pub listed-read : (readCall square listedImage (dot 0 0) .digit ∷ readCall squ
 unfolding rules
 listed-read = refl
 
+-- a refused read gives 0, whatever stands in the image
+pub refused-read : (readCall square (replicate 65536 255) (dot 512 0) ∷ readCall square (255 ∷ []) (dot 0 0) ∷ []) ≡ record { answer = 31; digit = 0 } ∷ record { answer = 11; digit = 0 } ∷ []
+unfolding rules
+refused-read = refl
+
 -- the program that a manual has typed in by hand: a vector from (0, 0) to units (512, 512), for ever
 abbrev pub typed : List ℕ
 typed = file (0o114000 ∷ 0 ∷ 0 ∷ 0o110000 ∷ 0o041000 ∷ 0o001000 ∷ 0o160000 ∷ 0 ∷ [])
@@ -51,6 +65,11 @@ numbers l = ranLine (l .result)
 pub typed-twice : numbers (runCall (plain typed) fresh blank 10) ≡ pos 0 ∷ pos 10 ∷ pos 16 ∷ pos 514 ∷ pos 0 ∷ pos 512 ∷ pos 512 ∷ []
 unfolding rules
 typed-twice = refl
+
+-- a step of it is its first instruction
+pub typed-step : numbers (stepCall (plain typed) fresh blank) ≡ pos 0 ∷ pos 1 ∷ pos 1 ∷ pos 0 ∷ pos 2 ∷ pos 0 ∷ pos 0 ∷ []
+unfolding rules
+typed-step = refl
 
 -- a store replaces its digit, whatever stood there, and leaves the others of its byte: a point of value 1 on bytes that are full
 pub one-digit : take 3 (run (given (plain (file (0o116400 ∷ 0o040012 ∷ 0 ∷ [])))) 2 (begun fresh (replicate 3 255)) .image) ≡ 255 ∷ 0xF7 ∷ 255 ∷ []

@@ -2,7 +2,7 @@
 use Prim.Native.Nat.{ℕ, zero, suc}
 use mathlib.Core.Bool.{true}
 use mathlib.Core.Path.{_≡_, refl}
-use mathlib.Core.List.{List, [], _∷_, _++_}
+use mathlib.Core.List.{List, [], _∷_, _++_, map}
 use lib.ListN.{length, replicate}
 use lib.IntN.{ℤ, pos, negsuc}
 use Rattle.definition.specs.Units.{units, pixels, pixel, pixelsOf}
@@ -12,6 +12,7 @@ use Rattle.definition.specs.Vector.{vector}
 use Rattle.definition.specs.Machine.{fresh, withCounter, withPosition, withMode, withIncrement, withStatus}
 use Rattle.definition.specs.Step.{Given, step}
 use Rattle.definition.specs.Calls.{plain, given}
+use Rattle.definition.specs.declared.Pixels.{Pixels}
 use Rattle.definition.specs.declared.Pixel.{Pixel}
 use Rattle.definition.specs.declared.Machine.{Machine}
 use Rattle.definition.specs.declared.Instruction.{Instruction}
@@ -62,15 +63,27 @@ pub data Case : Type 0 where
   reads : ℕ → ℕ → Instruction → Case
   steps : Given → ℕ → Machine → Machine → List Pixel → Case
 
-abbrev pub Holds : Case → Type 0
-Holds (halves u p) = pixelsOf 2 (units u) ≡ pixels p
-Holds (between a b ps) = vector a b ≡ ps
-Holds (reads mode w i) = decode mode w ≡ i
-Holds (steps g k m m′ ps) = (afterSteps g k m ≡ m′) × (stored g k m ≡ ps)
+-- what the rules give for a case, and what the case says
+pub data Seen : Type 0 where
+  halved : Pixels → Seen
+  drawn : List Pixel → Seen
+  read : Instruction → Seen
+  left : Machine → List Pixel → Seen
 
-abbrev pub All : List Case → Type 0
-All [] = Unit {0}
-All (c ∷ cs) = Holds c × All cs
+abbrev pub given-by-rules : Case → Seen
+given-by-rules (halves u p) = halved (pixelsOf 2 (units u))
+given-by-rules (between a b ps) = drawn (vector a b)
+given-by-rules (reads mode w i) = read (decode mode w)
+given-by-rules (steps g k m m′ ps) = left (afterSteps g k m) (stored g k m)
+
+abbrev pub said : Case → Seen
+said (halves u p) = halved (pixels p)
+said (between a b ps) = drawn ps
+said (reads mode w i) = read i
+said (steps g k m m′ ps) = left m′ ps
+
+abbrev pub Hold : List Case → Type 0
+Hold cs = map given-by-rules cs ≡ map said cs
 
 unfoldable pub pSet : List Case
 pSet =
@@ -94,7 +107,6 @@ pSet =
     ∷ steps (holding (0o042000 ∷ [])) 1 (inMode 1 (pos 1020) (pos 0)) (to (inMode 1 (pos 1020) (pos 0)) 2 (pos 1028) (pos 0)) (dot 510 0 ∷ dot 511 0 ∷ [])
     ∷ []
 
-pub all-p : All pSet
+pub all-p : Hold pSet
 unfolding rules pSet afterSteps stored
-all-p =
-    (refl, (refl, (refl, (refl, (refl, (refl, (refl, ((refl, refl), (refl, ((refl, refl), ((refl, refl), ((refl, refl), ((refl, refl), ((refl, refl), ((refl, refl), (refl, ((refl, refl), tt)))))))))))))))))
+all-p = refl

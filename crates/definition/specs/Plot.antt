@@ -1,10 +1,10 @@
--- The line that `plot` prints: seven whole numbers from the bytes of its input.
-use Prim.Native.Nat.{ℕ, _+_, _*_, _%_}
+-- What `plot` prints: seven whole numbers from the bytes of its input, as a line of text.
+use Prim.Native.Nat.{ℕ, zero, suc, _+_, _*_, _/_, _%_}
 use mathlib.Core.Bool.{not, _||_}
 use mathlib.Core.List.{List, [], _∷_, _++_}
 use lib.ListN.{length}
 use lib.Dec.{eqb, ltb}
-use lib.IntN.{ℤ, pos}
+use lib.IntN.{ℤ, pos, negsuc}
 use Rattle.definition.specs.Choice.{pick, Test, _when_, firstOf}
 use Rattle.definition.specs.Image.{blank}
 use Rattle.definition.specs.Machine.{fresh}
@@ -36,3 +36,25 @@ plotLine bytes =
     let n = firstOf (inputDoors bytes ++ runDoors (plain (wordsIn bytes)) fresh blank plotBudget) in
     let ran = ranLine (runCall (plain (wordsIn bytes)) fresh blank plotBudget .result) in
     pick (eqb n 0) ran (refusedLine n)
+
+-- ---- the line as text
+-- the decimal figures of n, of which there are at most `room`
+unfoldable pub figures : ℕ → ℕ → List ℕ
+figures zero n = []
+figures (suc room) n =
+    let higher = figures room (n / 10) in
+    pick (ltb n 10) ((48 + n) ∷ []) (higher ++ ((48 + n % 10) ∷ []))
+
+-- a number below zero has a minus sign before it
+unfoldable pub printed : ℤ → List ℕ
+printed (pos n) = figures (suc n) n
+printed (negsuc n) = 45 ∷ figures (suc (suc n)) (suc n)
+
+-- a space between two numbers, and a newline at the end
+unfoldable pub text : List ℤ → List ℕ
+text [] = []
+text (z ∷ []) = printed z ++ (10 ∷ [])
+text (z ∷ y ∷ rest) = printed z ++ (32 ∷ text (y ∷ rest))
+
+unfoldable pub plotText : List ℕ → List ℕ
+plotText bytes = text (plotLine bytes)

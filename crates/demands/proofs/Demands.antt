@@ -3,22 +3,22 @@
 -- Every rule is a function that computes to an answer for every argument: each call ends, whatever it is given.
 use Prim.Native.Nat.{ℕ, suc, _+_, _*_, _≤_, _<_, _%_}
 use mathlib.Core.Bool.{true, false}
-use mathlib.Core.List.{List, [], _∷_, reverse}
+use mathlib.Core.List.{List, [], _∷_, _++_, reverse}
 use mathlib.Core.Path.{_≡_, sym, ap, _∙_}
 use mathlib.Core.Logic.{_⊎_, inl, inr, _↔_}
 use native.Mathlib.Omega.{arith}
 use lib.ListN.{length, getD}
 use lib.IntN.{ℤ, pos, natAbs, _+ℤ_, _-ℤ_, _*ℤ_}
 use Rattle.definition.specs.Units.{units}
-use Rattle.definition.specs.Image.{Shape, square, imageBytes, blank, pixelAt, inside, Pen, stores, digitAt, Left, left}
+use Rattle.definition.specs.Image.{Shape, square, imageBytes, blank, pixelAt, inside, stores, digitAt, Left, left}
 use Rattle.definition.specs.File.{tag, segments, offset, size, header, segmentOf, placeOf, fetch, numberIn}
 use Rattle.definition.specs.Words.{coordinate}
 use Rattle.definition.specs.Vector.{longer, vector}
-use Rattle.definition.specs.Machine.{startedAt, withStatus, shapeOf, penOf}
+use Rattle.definition.specs.Machine.{fresh, startedAt, withStatus, shapeOf, penOf}
 use Rattle.definition.specs.Step.{Given, first, second, refusal, step}
 use Rattle.definition.specs.Run.{State, begun, after, run}
 use Rattle.definition.specs.Calls.{Lent, plain, given, checkCall, startCall, runDoor, turnedAway, runCall, stepCall, clearCall, readCall}
-use Rattle.definition.specs.Plot.{refusedLine, plotLine}
+use Rattle.definition.specs.Plot.{wordsIn, plotBudget, ranLine, refusedLine, plotLine}
 use Rattle.definition.specs.Promises.{Promise-check, Promise-fresh, Promise-start, Promise-run, Promise-step, Promise-clear, Promise-read}
 use Rattle.definition.specs.declared.Units.{Units}
 use Rattle.definition.specs.declared.Pixel.{Pixel}
@@ -56,16 +56,14 @@ run-reads-the-segments = outside.same-run
 pub step-reads-the-segments : (f g : List ℕ) → SameWords f g → Accepted f → Accepted g → (m : Machine) (im : List ℕ) → stepCall (plain f) m im ≡ stepCall (plain g) m im
 step-reads-the-segments f g h p q m im = outside.same-run f g h p q m im 1
 
+-- for one: whatever words follow an accepted file
+pub words-after-the-file : (f more : List ℕ) → Accepted f → (m : Machine) (im : List ℕ) (b : ℕ) → runCall (plain f) m im b ≡ runCall (plain (f ++ more)) m im b
+words-after-the-file = outside.appended-run
+
 -- ---- what a refusal leaves
--- at a door: the machine and the image as given, and counts of 0
+-- at a door: the machine and the image as given, and counts of 0 (of start and clear: start-16, clear-11)
 pub run-turned-away : (l : Lent) (m : Machine) (im : List ℕ) (b : ℕ) → (runDoor l m im b ≡ 0 → ⊥) → runCall l m im b ≡ turnedAway m im (runDoor l m im b)
 run-turned-away = calls.call-shut
-
-pub start-turned-away : (m : Machine) (a : ℕ) → (Fits m → ⊥) → startCall m a ≡ record { answer = 16; machine = m }
-start-turned-away = others.start-shut
-
-pub clear-turned-away : (im : List ℕ) → (length im ≡ imageBytes → ⊥) → clearCall im ≡ left 11 im
-clear-turned-away = others.clear-11
 
 -- of an instruction: no pixel is changed, of the machine only the status, so that the counter is at its first word; and it is not counted
 pub refused-instruction : (g : Given) (s : State) → (refusal g (s .machine) ≡ 0 → ⊥)
@@ -185,11 +183,14 @@ module _ (l : Lent) (m : Machine) (im : List ℕ) (b : ℕ) where
 pub start-0 : (m : Machine) (a : ℕ) → (startCall m a ≡ record { answer = 0; machine = startedAt m a }) ↔ Fits m
 start-0 = others.start-0
 
-pub start-16 : (m : Machine) (a : ℕ) → (startCall m a .answer ≡ 16) ↔ (Fits m → ⊥)
+pub start-16 : (m : Machine) (a : ℕ) → (startCall m a ≡ record { answer = 16; machine = m }) ↔ (Fits m → ⊥)
 start-16 = others.start-16
 
-pub clear-0 : (im : List ℕ) → length im ≡ imageBytes → clearCall im ≡ left 0 blank
+pub clear-0 : (im : List ℕ) → (clearCall im ≡ left 0 blank) ↔ (length im ≡ imageBytes)
 clear-0 = others.clear-0
+
+pub clear-11 : (im : List ℕ) → (clearCall im ≡ left 11 im) ↔ (length im ≡ imageBytes → ⊥)
+clear-11 = others.clear-11
 
 pub read-0 : (s : Shape) (im : List ℕ) (p : Pixel) → (readCall s im p ≡ record { answer = 0; digit = digitAt s im (natAbs (p .x .0)) (natAbs (p .y .0)) }) ↔ ((length im ≡ imageBytes) × InField s p)
 read-0 = others.read-0
@@ -203,6 +204,14 @@ read-31 = others.read-31
 pub plot-19 : (bytes : List ℕ) → (plotLine bytes ≡ refusedLine 19) ↔ ((length bytes % 2 ≡ 0 → ⊥) ⊎ (65536 < length bytes))
 plot-19 = others.plot-19
 
+-- for every other input: the number of the file's check and six zeros, or the line of the run
+pub plot-refused : (bytes : List ℕ) → length bytes % 2 ≡ 0 → length bytes ≤ 65536 → (checkCall (wordsIn bytes) ≡ 0 → ⊥) → plotLine bytes ≡ refusedLine (checkCall (wordsIn bytes))
+plot-refused = others.plot-door
+
+pub plot-ran : (bytes : List ℕ) → length bytes % 2 ≡ 0 → length bytes ≤ 65536 → checkCall (wordsIn bytes) ≡ 0
+    → plotLine bytes ≡ ranLine (runCall (plain (wordsIn bytes)) fresh blank plotBudget .result)
+plot-ran = others.plot-run
+
 -- ==== Demand 2
 
 -- ---- the plot comes before the step
@@ -213,18 +222,28 @@ graph-y-plots-then-steps = graphs.plot-then-step AlongX
 pub graph-x-plots-then-steps : (g : Given) (s : State) (ws : List ℕ) → Ready AlongY g s ws → run g (length ws) s ≡ plotted AlongY s ws
 graph-x-plots-then-steps = graphs.plot-then-step AlongY
 
--- of which: word k lights the pixel of (start + k x increment, its value), so that word 0 stands in the start's own column
+-- of which: word k lights the pixel of (start + k x increment, its value), and word 0 that of the start's own column; for graph X, row
 pub week-k : (h : Shape) (x : ℤ) (g k : ℕ) (ws : List ℕ) (d : Pixel) → k < length ws
-    → getD (weeks AlongX h x g 0 ws) k d ≡ pixelAt h (units (x +ℤ pos ((0 + k) * g))) (coordinate (getD ws k 0))
-week-k h x g k ws d p = graphs.week-at AlongX h x g 0 k ws d p
+    → getD (weeks AlongX h x g 0 ws) k d ≡ pixelAt h (units (x +ℤ pos (k * g))) (coordinate (getD ws k 0))
+week-k = graphs.week-at AlongX
 
--- the image is the one before with these pixels stored, and X ends one increment past the last word
+pub week-0 : (h : Shape) (x : ℤ) (g w : ℕ) (ws : List ℕ) (d : Pixel) → getD (weeks AlongX h x g 0 (w ∷ ws)) 0 d ≡ pixelAt h (units x) (coordinate w)
+week-0 = graphs.first-week AlongX
+
+pub row-k : (h : Shape) (y : ℤ) (g k : ℕ) (ws : List ℕ) (d : Pixel) → k < length ws
+    → getD (weeks AlongY h y g 0 ws) k d ≡ pixelAt h (coordinate (getD ws k 0)) (units (y +ℤ pos (k * g)))
+row-k = graphs.week-at AlongY
+
+-- the image is the one before with these pixels stored, and the position ends one increment past the last word
 pub week-picture : (g : Given) (s : State) (ws : List ℕ) → Ready AlongX g s ws
     → run g (length ws) s .image ≡ stores (shapeOf (s .machine)) (penOf (s .machine)) (s .image) (shown (s .machine) (weeks AlongX (shapeOf (s .machine)) (s .machine .x .0) (s .machine .increment) 0 ws))
 week-picture g s ws r = ap (λ (t : State). t .image) (graphs.plot-then-step AlongX g s ws r)
 
 pub week-position : (g : Given) (s : State) (ws : List ℕ) → Ready AlongX g s ws → run g (length ws) s .machine .x ≡ units (s .machine .x .0 +ℤ pos (length ws * s .machine .increment))
 week-position g s ws r = ap (λ (t : State). t .machine .x) (graphs.plot-then-step AlongX g s ws r)
+
+pub row-position : (g : Given) (s : State) (ws : List ℕ) → Ready AlongY g s ws → run g (length ws) s .machine .y ≡ units (s .machine .y .0 +ℤ pos (length ws * s .machine .increment))
+row-position g s ws r = ap (λ (t : State). t .machine .y) (graphs.plot-then-step AlongY g s ws r)
 
 -- ---- nothing is hidden between steps: a run of b + c is a run of b and then one of c, the counts summed
 pub runs-in-a-row : (g : Given) (b c : ℕ) (m : Machine) (im : List ℕ)
@@ -270,8 +289,9 @@ one-pixel-near = vectors.point-near
 pub vector-backwards : (a b : Pixel) → vector b a ≡ reverse (vector a b)
 vector-backwards = vectors.vector-turned
 
-pub image-backwards : (s : Shape) (pen : Pen) → ((v : ℕ) → pen v < s .base) → (im : List ℕ) (a b : Pixel) → stores s pen im (inside s (vector b a)) ≡ stores s pen im (inside s (vector a b))
-image-backwards = vectors.same-image
+pub image-backwards : (m : Machine) → Fits m → (im : List ℕ) (a b : Pixel)
+    → stores (shapeOf m) (penOf m) im (inside (shapeOf m) (vector b a)) ≡ stores (shapeOf m) (penOf m) im (inside (shapeOf m) (vector a b))
+image-backwards m f = vectors.same-image (shapeOf m) (penOf m) (λ v. kept.pen-low m f)
 
 -- ==== One outcome: two outcomes that the promise of a call allows are equal
 

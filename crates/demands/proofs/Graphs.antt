@@ -4,7 +4,7 @@ use mathlib.Core.Bool.{Bool, true, false}
 use mathlib.Core.List.{List, [], _∷_, _++_}
 use mathlib.Core.Path.{_≡_, refl, sym, ap, _∙_}
 use native.Mathlib.Omega.{arith}
-use native.Mathlib.Nat.{add-assoc, add-zero}
+use native.Mathlib.Nat.{add-assoc, add-zero, zero-add}
 use lib.ListN.{length, length-append, getD}
 use lib.IntN.{ℤ, pos, negsuc, _+ℤ_}
 use lib.Signed.{_≤ℤ_}
@@ -14,7 +14,7 @@ use Rattle.definition.specs.Choice.{pick, firstOf}
 use Rattle.definition.specs.Units.{units, moved}
 use Rattle.definition.specs.Image.{Shape, inside, stores}
 use Rattle.definition.specs.File.{fetchRefusals}
-use Rattle.definition.specs.Words.{coordinate, item, decode, firstRefusals, secondRefusals}
+use Rattle.definition.specs.Words.{bit, coordinate, item, decode, firstRefusals, secondRefusals}
 use Rattle.definition.specs.Machine.{next, shapeOf, penOf}
 use Rattle.definition.specs.Step.{Given, wayRefusals, refusals, refusal, done}
 use Rattle.definition.specs.Run.{State, after, run}
@@ -36,16 +36,17 @@ abbrev itemOf : Axis → Units → Item
 itemOf AlongX v = GraphY v
 itemOf AlongY v = GraphX v
 
+-- a lit data word: bit 15 clear, bit 14 set
+clear-15 : (w : ℕ) → w / 16384 ≡ 1 → bit 15 w ≡ false
+clear-15 w e = ne-eqb (w / 32768 % 2) 1 (λ q. omega arith)
+
+set-14 : (w : ℕ) → w / 16384 ≡ 1 → bit 14 w ≡ true
+set-14 w e = eq-eqb (w / 16384 % 2) 1 (omega arith)
+
 decoded : (axis : Axis) (w : ℕ) → w / 16384 ≡ 1 → decode (modeOf axis) w ≡ Draws true (itemOf axis (coordinate w))
 unfolding decode item
-decoded AlongX w e =
-    let a : w / 32768 % 2 ≡ 1 → ⊥ = λ q. omega arith in
-    let b : w / 16384 % 2 ≡ 1 = omega arith in
-    rw (ne-eqb _ _ a, eq-eqb _ _ b)
-decoded AlongY w e =
-    let a : w / 32768 % 2 ≡ 1 → ⊥ = λ q. omega arith in
-    let b : w / 16384 % 2 ≡ 1 = omega arith in
-    rw (ne-eqb _ _ a, eq-eqb _ _ b)
+decoded AlongX w e = rw (clear-15 w e, set-14 w e)
+decoded AlongY w e = rw (clear-15 w e, set-14 w e)
 
 -- a coordinate of a word is in range
 coordinate-in : (w : ℕ) → InRange (coordinate w)
@@ -62,12 +63,8 @@ module _ (g : Given) (s : State) (w : ℕ) (here : g .memory (s .machine .counte
   -- no refusal: the word is a lit graph word, and the coordinate that it steps stays in range
   free : (axis : Axis) → m .mode ≡ modeOf axis → InRange (grown axis m) → refusal g m ≡ 0
   unfolding refusal refusals fetchRefusals firstRefusals secondRefusals wayRefusals firstOf
-  free AlongX five fits =
-      let a : w / 32768 % 2 ≡ 1 → ⊥ = λ q. omega arith in
-      rw (here, five, decoded AlongX w lit, ne-eqb _ _ a, in-range .1 fits, in-range .1 (coordinate-in w))
-  free AlongY four fits =
-      let a : w / 32768 % 2 ≡ 1 → ⊥ = λ q. omega arith in
-      rw (here, four, decoded AlongY w lit, ne-eqb _ _ a, in-range .1 fits, in-range .1 (coordinate-in w))
+  free AlongX five fits = rw (here, five, decoded AlongX w lit, clear-15 w lit, in-range .1 fits, in-range .1 (coordinate-in w))
+  free AlongY four fits = rw (here, four, decoded AlongY w lit, clear-15 w lit, in-range .1 fits, in-range .1 (coordinate-in w))
 
   -- the point is plotted where the machine stands, and the step comes after it
   one-word : (axis : Axis) → m .mode ≡ modeOf axis → InRange (grown axis m)
@@ -93,18 +90,18 @@ went-twice AlongY s a a′ u u′ v v′ n n′ ps qs =
     let m = s .machine in
     simp (shown-append m ps qs, stores-append (shapeOf m) (penOf m) (s .image) (shown m ps) (shown m qs), length-append (shown m ps) (shown m qs), add-assoc)
 
+shown-none : (m : Machine) → shown m [] ≡ []
+unfolding inside
+shown-none m = go (m .write)
+  where
+    go : (on : Bool) → pick on (inside (shapeOf m) []) [] ≡ []
+    go true = refl
+    go false = refl
+
 went-nowhere : (axis : Axis) (s : State) (u : Units) → u ≡ stepped axis (s .machine) → went axis s (s .machine .counter) u (valued axis (s .machine)) 0 [] ≡ s
-unfolding stores inside
-went-nowhere AlongX s u e = simp (none (s .machine .write), e, add-zero)
-  where
-    none : (on : Bool) → pick on (inside (shapeOf (s .machine)) []) [] ≡ []
-    none true = refl
-    none false = refl
-went-nowhere AlongY s u e = simp (none (s .machine .write), e, add-zero)
-  where
-    none : (on : Bool) → pick on (inside (shapeOf (s .machine)) []) [] ≡ []
-    none true = refl
-    none false = refl
+unfolding stores
+went-nowhere AlongX s u e = simp (shown-none (s .machine), e, add-zero)
+went-nowhere AlongY s u e = simp (shown-none (s .machine), e, add-zero)
 
 -- from one increment further on, the words have one number less
 shift : (axis : Axis) (h : Shape) (x : ℤ) (g k : ℕ) (ws : List ℕ) → weeks axis h (x +ℤ pos g) g k ws ≡ weeks axis h x g (suc k) ws
@@ -123,20 +120,22 @@ from-here x g = omega (whole, add x (pos (0 * g)))
 abbrev begins : Axis → State → ℕ → State
 begins axis s w = went axis s (next (s .machine .counter)) (grown axis (s .machine)) (coordinate w) 1 (pixelOn axis (shapeOf (s .machine)) (stepped axis (s .machine)) (coordinate w) ∷ [])
 
+-- the same end, counted from the first word and from the second
+same-end : (axis : Axis) (s : State) (a w : ℕ) (x : ℤ) (v : Units) (g : ℕ) (ws : List ℕ) → let h = shapeOf (s .machine) in
+    went axis s a (units ((x +ℤ pos g) +ℤ pos (length ws * g))) v (1 + length ws) (pixelOn axis h (units x) (coordinate w) ∷ weeks axis h (x +ℤ pos g) g 0 ws)
+    ≡ went axis s a (units (x +ℤ pos (length (w ∷ ws) * g))) v (length (w ∷ ws)) (weeks axis h x g 0 (w ∷ ws))
+same-end axis s a w x v g ws =
+    let e : 1 + length ws ≡ suc (length ws) = omega arith in
+    rw (further x g (length ws), shift axis (shapeOf (s .machine)) x g 0 ws, from-here x g, e)
+
 the-rest : (axis : Axis) (s : State) (w : ℕ) (ws : List ℕ) → plotted axis (begins axis s w) ws ≡ plotted axis s (w ∷ ws)
 unfolding moved
 the-rest AlongX s w ws =
-    let x = s .machine .x .0 in
-    let g = s .machine .increment in
-    let e : 1 + length ws ≡ suc (length ws) = omega arith in
     went-twice AlongX s (next (s .machine .counter)) _ (grown AlongX (s .machine)) _ (coordinate w) _ 1 (length ws) _ _
-    ∙ rw (further x g (length ws), shift AlongX (shapeOf (s .machine)) x g 0 ws, from-here x g, e)
+    ∙ same-end AlongX s _ w (s .machine .x .0) _ (s .machine .increment) ws
 the-rest AlongY s w ws =
-    let y = s .machine .y .0 in
-    let g = s .machine .increment in
-    let e : 1 + length ws ≡ suc (length ws) = omega arith in
     went-twice AlongY s (next (s .machine .counter)) _ (grown AlongY (s .machine)) _ (coordinate w) _ 1 (length ws) _ _
-    ∙ rw (further y g (length ws), shift AlongY (shapeOf (s .machine)) y g 0 ws, from-here y g, e)
+    ∙ same-end AlongY s _ w (s .machine .y .0) _ (s .machine .increment) ws
 
 -- the first word fits, and what is left is ready for the others
 grown-in : (x : ℤ) (g n : ℕ) → negsuc 4095 ≤ℤ x → (x +ℤ pos (suc n * g)) ≤ℤ pos 4095 → InRange (units (x +ℤ pos g))
@@ -167,9 +166,16 @@ plot-then-step axis g s (w ∷ ws) r =
     ∙ plot-then-step axis g (begins axis s w) ws (still-ready axis g s w ws r)
     ∙ the-rest axis s w ws
 
--- word k of the list, by its number: word 0 stands at the start itself
-pub week-at : (axis : Axis) (h : Shape) (x : ℤ) (g j k : ℕ) (ws : List ℕ) (d : Pixel) → k < length ws
+-- ---- word k of the list, by its number
+from-j : (axis : Axis) (h : Shape) (x : ℤ) (g j k : ℕ) (ws : List ℕ) (d : Pixel) → k < length ws
     → getD (weeks axis h x g j ws) k d ≡ pixelOn axis h (units (x +ℤ pos ((j + k) * g))) (coordinate (getD ws k 0))
-week-at axis h x g j k [] d p = absurd (omega arith)
-week-at axis h x g j zero (w ∷ ws) d p = rw (add-zero j)
-week-at axis h x g j (suc k) (w ∷ ws) d p = let e : suc j + k ≡ j + suc k = omega arith in week-at axis h x g (suc j) k ws d (omega arith) ∙ rw e
+from-j axis h x g j k [] d p = absurd (omega arith)
+from-j axis h x g j zero (w ∷ ws) d p = rw (add-zero j)
+from-j axis h x g j (suc k) (w ∷ ws) d p = let e : suc j + k ≡ j + suc k = omega arith in from-j axis h x g (suc j) k ws d (omega arith) ∙ rw e
+
+pub week-at : (axis : Axis) (h : Shape) (x : ℤ) (g k : ℕ) (ws : List ℕ) (d : Pixel) → k < length ws
+    → getD (weeks axis h x g 0 ws) k d ≡ pixelOn axis h (units (x +ℤ pos (k * g))) (coordinate (getD ws k 0))
+week-at axis h x g k ws d p = from-j axis h x g 0 k ws d p ∙ rw zero-add
+
+pub first-week : (axis : Axis) (h : Shape) (x : ℤ) (g w : ℕ) (ws : List ℕ) (d : Pixel) → getD (weeks axis h x g 0 (w ∷ ws)) 0 d ≡ pixelOn axis h (units x) (coordinate w)
+first-week axis h x g w ws d = rw (from-here x g)

@@ -10,7 +10,7 @@ use lib.ListN.{length}
 use Rattle.definition.specs.Choice.{pick, within, Test, firstOf}
 use Rattle.definition.specs.File.{fetchRefusals}
 use Rattle.definition.specs.Words.{bit, code, setsMode, order, decode, firstRefusals, secondRefusals}
-use Rattle.definition.specs.Machine.{inRange, isMode, isStatus, ranged}
+use Rattle.definition.specs.Machine.{shapeOf, inRange, isMode, isStatus, ranged}
 use Rattle.definition.specs.Step.{Change, wayOf, changed, leaves, ordered, done, Given, first, second, instruction, wayRefusals, refusals, refusal, step}
 use Rattle.definition.specs.Step.Change.{Stay, Set, Move}
 use Rattle.definition.specs.Run.{State, run}
@@ -50,6 +50,10 @@ fits m =
       λ w. record { x = w .0 .0 .0 .0 .0; y = w .0 .0 .0 .0 .1; mode = w .0 .0 .0 .1; value = w .0 .0 .1; increment = w .0 .1; status = w .1 },
       λ f. (((((f .x, f .y), f .mode), f .value), f .increment), f .status),
     )
+
+-- a machine in range stores a digit of its shape
+pub pen-low : (m : Machine) → Fits m → m .value < shapeOf m .base
+pen-low m f = below-four .1 (f .value)
 
 -- ---- an instruction that is read has its numbers in range
 abbrev Read : Instruction → Type 0

@@ -11,4 +11,5 @@ pub mod Near
 pub mod Numbered
 pub mod Vectors
 pub mod Graphs
+pub mod Instances
 pub mod Demands

@@ -1,5 +1,5 @@
 -- The answers of start, clear and read-pixel, and of `plot`, each exactly when.
-use Prim.Native.Nat.{ℕ, _<_, _%_}
+use Prim.Native.Nat.{ℕ, _≤_, _<_, _%_}
 use mathlib.Core.Bool.{true}
 use mathlib.Core.List.{List, [], _∷_, _++_}
 use mathlib.Core.Path.{_≡_, refl, ap}
@@ -8,13 +8,13 @@ use native.Mathlib.Omega.{arith}
 use native.Mathlib.Decide.{ℕ-discrete}
 use lib.ListN.{length}
 use lib.IntN.{ℤ, pos, natAbs}
-use borrow.Author.Tests.{eq-eqb, ne-eqb}
+use borrow.Author.Tests.{eq-eqb, ne-eqb, le-ltb}
 use Rattle.definition.specs.Choice.{firstOf}
-use Rattle.definition.specs.Image.{Shape, imageBytes, blank, inField, digitAt, left}
-use Rattle.definition.specs.Machine.{fresh, startedAt, machineDoors}
+use Rattle.definition.specs.Image.{Shape, Left, imageBytes, blank, inField, digitAt, left}
+use Rattle.definition.specs.Machine.{fresh, startedAt, inRange, isMode, isStatus, ranged, machineDoors}
 use Rattle.definition.specs.File.{headDoors, segmentDoors, fileDoors}
-use Rattle.definition.specs.Calls.{imageDoors, budgetDoors, runningDoors, fieldDoors, startCall, clearCall, readCall, plain, runDoors}
-use Rattle.definition.specs.Plot.{wordsIn, inputDoors, plotBudget, refusedLine, plotLine}
+use Rattle.definition.specs.Calls.{imageDoors, budgetDoors, runningDoors, fieldDoors, checkCall, startCall, clearCall, readCall, plain, runDoors, runCall}
+use Rattle.definition.specs.Plot.{wordsIn, inputDoors, plotBudget, ranLine, refusedLine, plotLine}
 use Rattle.definition.specs.declared.Pixel.{Pixel}
 use Rattle.definition.specs.declared.Machine.{Machine}
 use Rattle.definition.specs.declared.Started.{Started}
@@ -27,31 +27,35 @@ use Rattle.demands.proofs.CallAnswers.{never-19}
 
 -- ---- start
 module _ (m : Machine) (a : ℕ) where
-  pub start-16 : (startCall m a .answer ≡ 16) ↔ (Fits m → ⊥)
-  unfolding startCall machineDoors
-  start-16 = exactly 16 (machineDoors m) (omega arith) so not-true so failing so never (fits m)
-
   pub start-0 : (startCall m a ≡ record { answer = 0; machine = startedAt m a }) ↔ Fits m
   unfolding startCall machineDoors
-  start-0 = (λ e. opened .0 (ap (λ (r : Started). r .answer) e), λ f. rw (opened .1 f))
+  start-0 = (λ e. given .0 (ap (λ (r : Started). r .answer) e), λ f. rw (given .1 f))
     where
-      opened : (firstOf (machineDoors m) ≡ 0) ↔ Fits m
-      opened = none (machineDoors m) refl so (not-false so fits m) and itself so (λ w. w .0, λ f. (f, tt))
+      given : (firstOf (machineDoors m) ≡ 0) ↔ Fits m
+      given = none (machineDoors m) refl so (not-false so fits m) and itself so (λ w. w .0, λ f. (f, tt))
 
-  -- refused, it leaves the machine as given
-  pub start-shut : (Fits m → ⊥) → startCall m a ≡ record { answer = 16; machine = m }
+  pub start-16 : (startCall m a ≡ record { answer = 16; machine = m }) ↔ (Fits m → ⊥)
   unfolding startCall machineDoors
-  start-shut h = let e = start-16 .1 h in rw e
+  start-16 = (λ e. given .0 (ap (λ (r : Started). r .answer) e), λ h. rw (given .1 h))
+    where
+      given : (firstOf (machineDoors m) ≡ 16) ↔ (Fits m → ⊥)
+      given = exactly 16 (machineDoors m) (omega arith) so not-true so failing so never (fits m)
 
 -- ---- clear
 module _ (im : List ℕ) where
-  pub clear-0 : length im ≡ imageBytes → clearCall im ≡ left 0 blank
-  unfolding clearCall imageDoors firstOf
-  clear-0 e = rw (eq-eqb _ _ e)
+  pub clear-0 : (clearCall im ≡ left 0 blank) ↔ (length im ≡ imageBytes)
+  unfolding clearCall imageDoors
+  clear-0 = (λ e. given .0 (ap (λ (r : Left ℕ). r .result) e), λ h. rw (given .1 h))
+    where
+      given : (firstOf (imageDoors im) ≡ 0) ↔ (length im ≡ imageBytes)
+      given = none (imageDoors im) refl so (not-false so is-equal) and itself so (λ w. w .0, λ h. (h, tt))
 
-  pub clear-11 : (length im ≡ imageBytes → ⊥) → clearCall im ≡ left 11 im
-  unfolding clearCall imageDoors firstOf
-  clear-11 h = rw (ne-eqb _ _ h)
+  pub clear-11 : (clearCall im ≡ left 11 im) ↔ (length im ≡ imageBytes → ⊥)
+  unfolding clearCall imageDoors
+  clear-11 = (λ e. given .0 (ap (λ (r : Left ℕ). r .result) e), λ h. rw (given .1 h))
+    where
+      given : (firstOf (imageDoors im) ≡ 11) ↔ (length im ≡ imageBytes → ⊥)
+      given = exactly 11 (imageDoors im) (omega arith) so not-true so not-equal
 
 -- ---- read-pixel
 module _ (s : Shape) (im : List ℕ) (p : Pixel) where
@@ -85,6 +89,9 @@ module _ (s : Shape) (im : List ℕ) (p : Pixel) where
           so (λ w. (w .0, w .1 .0), λ w. (w .0, (w .1, tt)))
 
 -- ---- plot
+same : {a b : ℕ} → pos a ≡ pos b → a ≡ b
+same e = cc
+
 module _ (bytes : List ℕ) where
   abbrev number : ℕ
   number = firstOf (inputDoors bytes ++ runDoors (plain (wordsIn bytes)) fresh blank plotBudget)
@@ -104,10 +111,21 @@ module _ (bytes : List ℕ) where
     where
       go : Dec (number ≡ 0) → plotLine bytes ≡ refusedLine 19 → number ≡ 19
       go (no h) e = same (ap head (rw (ne-eqb _ _ h) at e))
-        where
-          same : {a b : ℕ} → pos a ≡ pos b → a ≡ b
-          same e = cc
       go (yes z) e = absurd (never-19 (plain (wordsIn bytes)) fresh blank plotBudget (same (ap head (rw (eq-eqb _ _ z) at e))))
-        where
-          same : {a b : ℕ} → pos a ≡ pos b → a ≡ b
-          same e = cc
+
+-- else the line is that of the file's doors, or of the run: no other door can speak
+module _ (bytes : List ℕ) (even : length bytes % 2 ≡ 0) (few : length bytes ≤ 65536) where
+  abbrev f : List ℕ
+  f = wordsIn bytes
+
+  by-check : number bytes ≡ checkCall f
+  unfolding checkCall inputDoors runDoors imageDoors fileDoors headDoors segmentDoors machineDoors budgetDoors runningDoors ranged inRange isMode isStatus firstOf
+  by-check = rw (eq-eqb _ _ even, le-ltb _ _ few)
+
+  pub plot-door : (checkCall f ≡ 0 → ⊥) → plotLine bytes ≡ refusedLine (checkCall f)
+  unfolding plotLine
+  plot-door h = rw (by-check, ne-eqb _ _ h)
+
+  pub plot-run : checkCall f ≡ 0 → plotLine bytes ≡ ranLine (runCall (plain f) fresh blank plotBudget .result)
+  unfolding plotLine
+  plot-run e = rw (by-check, eq-eqb _ _ e)

@@ -1,12 +1,12 @@
 -- Words outside the header and the segments make no difference.
 use Prim.Native.Nat.{ℕ, zero, suc, _+_, _*_, _%_, _≤_, _<_}
 use mathlib.Core.Bool.{not}
-use mathlib.Core.List.{List}
-use mathlib.Core.Path.{_≡_, refl, ap, fun-ext}
+use mathlib.Core.List.{List, _++_}
+use mathlib.Core.Path.{_≡_, refl, sym, ap, _∙_, fun-ext}
 use native.Mathlib.Omega.{arith}
 use native.Mathlib.Decide.{decLe}
 use lib.Dec.{eqb, leb}
-use lib.ListN.{length, getD}
+use lib.ListN.{length, getD, length-append, List·getD-append}
 use borrow.Author.Tests.{le-leb}
 use Rattle.definition.specs.Choice.{pick, firstOf}
 use Rattle.definition.specs.File.{tag, segments, offset, size, keepBelow, headDoors, segmentDoors, fileDoors, segmentOf, placeOf, fetch}
@@ -71,3 +71,34 @@ module _ (f g : List ℕ) (h : SameWords f g) where
     pub same-run : runCall (plain f) m im b ≡ runCall (plain g) m im b
     unfolding runCall
     same-run = rw (same-door, same-memory)
+
+-- ---- for one: words after the end of an accepted file
+module _ (f more : List ℕ) (p : Accepted f) where
+  kept : (i : ℕ) → i < length f → getD f i 0 ≡ getD (f ++ more) i 0
+  kept i l = sym (List·getD-append f more 0 i l)
+
+  headed : SameHeader f (f ++ more)
+  headed = record { same = λ i l. let h = p .head .whole in kept i (omega arith) }
+
+  pub appended-same : SameWords f (f ++ more)
+  appended-same = record { headers = headed; same = λ i k l n. let h = p .each i l .inside in kept (offset f i + k) (omega arith) }
+
+  pub appended-accepted : Accepted (f ++ more)
+  appended-accepted =
+      let l = length-append f more in
+      let e = same-segments f (f ++ more) headed in
+      let h = p .head in
+      record {
+        head = record { two-words = let a = h .two-words in omega arith; tagged = sym (same-tag f (f ++ more) headed) ∙ h .tagged; some = let a = h .some in omega arith; few = let a = h .few in omega arith; whole = let a = h .whole in omega arith };
+        each = λ i n.
+            let k = p .each i (omega arith) in
+            let o = same-offset f (f ++ more) headed i (omega arith) in
+            let s = same-size f (f ++ more) headed i (omega arith) in
+            let a = k .after-header in
+            let b = k .short in
+            let c = k .inside in
+            record { after-header = omega arith; short = omega arith; inside = omega arith };
+      }
+
+  pub appended-run : (m : Machine) (im : List ℕ) (b : ℕ) → runCall (plain f) m im b ≡ runCall (plain (f ++ more)) m im b
+  appended-run m im b = same-run f (f ++ more) appended-same p appended-accepted m im b

@@ -19,10 +19,7 @@ pub pick-keeps : {A : Type 0} (P : A → Type 0) (t : Bool) {a b : A} → (t ≡
 pick-keeps P true p q = p refl
 pick-keeps P false p q = q refl
 
--- counts join in any grouping, and nothing adds nothing
-pub summed-assoc : (a b c : Counts) → summed (summed a b) c ≡ summed a (summed b c)
-summed-assoc a b c = simp add-assoc
-
+-- nothing adds nothing
 pub summed-nothing : (a : Counts) → summed a nothing ≡ a
 summed-nothing a = simp add-zero
 

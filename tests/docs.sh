@@ -1,0 +1,40 @@
+#!/bin/sh
+# docs/DEFINITION.md against the tree: every definition, example, theorem and edit that it names is there, and every theorem is named in it.
+set -eu
+cd "$(dirname "$0")/.."
+doc=docs/DEFINITION.md
+theorems=crates/demands/proofs/Demands.antt
+work=$(mktemp -d)
+trap 'rm -rf "$work"' EXIT
+
+# what stands between backquotes, one to a line
+tr '\n' ' ' <"$doc" | grep -o '`[^` ]*`' | tr -d '`' | sort -u >"$work/named"
+failed=0
+
+# `File.name`: declared in a file of that name
+grep -E '^[A-Z][A-Za-z]*\.[A-Za-z][A-Za-z0-9-]*$' "$work/named" | grep -v '\.antt$' >"$work/definitions"
+while IFS=. read -r file name; do
+    cat crates/*/specs/"$file".antt crates/*/proofs/"$file".antt >"$work/file" 2>/dev/null || :
+    grep -Eq "^ *(abbrev |unfoldable )?pub (record |data )?$name( |\$)" "$work/file" ||
+        { echo "$doc names $file.$name, which is not there"; failed=1; }
+done <"$work/definitions"
+
+# `some_edit`: a must-fail edit of the definition
+grep -E '^[a-z0-9]+(_[a-z0-9]+)+$' "$work/named" >"$work/edits" || :
+while read -r edit; do
+    [ -f "crates/definition/must-fail/$edit.edit" ] || { echo "$doc names the edit $edit, which is not there"; failed=1; }
+done <"$work/edits"
+
+# theorems: each is named
+sed -n 's/^ *pub \([a-z0-9-]*\) :.*/\1/p' "$theorems" >"$work/theorems"
+while read -r theorem; do
+    grep -qx -e "$theorem" "$work/named" || { echo "$doc does not name the theorem $theorem"; failed=1; }
+done <"$work/theorems"
+
+# links of README
+sed -n 's/.*](\([^)#]*\)).*/\1/p' README.md | while read -r path; do
+    [ -e "$path" ] || { echo "README.md links to $path, which is not there"; exit 1; }
+done || failed=1
+
+[ "$failed" -eq 0 ] && echo "docs: $(wc -l <"$work/definitions") definitions, $(wc -l <"$work/edits") edits and $(wc -l <"$work/theorems") theorems are where $doc has them"
+[ "$failed" -eq 0 ]
