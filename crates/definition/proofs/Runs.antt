@@ -1,19 +1,21 @@
 -- Whole calls, computed.
-use Prim.Native.Nat.{ℕ}
-use mathlib.Core.Bool.{true, false}
+use Prim.Native.Nat.{ℕ, zero, suc}
+use mathlib.Core.Bool.{Bool, true, false}
 use mathlib.Core.Path.{_≡_, refl}
 use mathlib.Core.List.{List, [], _∷_}
 use lib.ListN.{getD, take, replicate}
 use lib.IntN.{ℤ, pos, negsuc}
 use Rattle.definition.specs.Image.{square, blank, left, Left}
-use Rattle.definition.specs.Machine.{fresh, withCounter, withWrite, withLatch, withIncrement, withStatus}
-use Rattle.definition.specs.Calls.{plain, given, startCall, runCall, stepCall, turnedAway, clearCall, readCall}
+use Rattle.definition.specs.Machine.{fresh, withMode}
+use Rattle.definition.specs.Calls.{plain, given, startCall, runCall, stepCall, clearCall, readCall}
+use Rattle.definition.specs.Step.{Given, step}
 use Rattle.definition.specs.Run.{begun, run}
-use Rattle.definition.specs.Plot.{wordsIn, ranLine, refusedLine, plotLine, text, plotText}
+use Rattle.definition.specs.Plot.{wordsIn, ranLine, plotLine, text, plotText}
 use Rattle.definition.specs.declared.Machine.{Machine}
+use Rattle.definition.specs.declared.Counts.{Counts}
 use Rattle.definition.specs.declared.Ran.{Ran}
 use Rattle.definition.proofs.Opened.{rules}
-use Rattle.definition.proofs.Worked.{file, inMode, dot}
+use Rattle.definition.proofs.Worked.{file, holding, dot}
 
 -- the case that document 01 lists, by its bytes
 abbrev pub listed : List ℕ
@@ -32,11 +34,19 @@ pub printed-so : text (pos 1000 ∷ negsuc 4095 ∷ pos 0 ∷ []) ≡ 49 ∷ 48 
 unfolding rules
 printed-so = refl
 
--- 19 speaks before the file's doors, and an empty input is a file of no words
-pub plot-refused : (plotLine (2 ∷ []) ∷ plotLine (replicate 65538 0) ∷ plotLine [] ∷ plotLine (2 ∷ 0 ∷ 9 ∷ 0 ∷ []) ∷ [])
-    ≡ refusedLine 19 ∷ refusedLine 19 ∷ refusedLine 12 ∷ refusedLine 13 ∷ []
+-- 19 speaks before the file's doors, from 65,537 bytes on or for an odd number; an empty input is a file of no words
+abbrev alone : ℕ → List ℤ
+alone n = pos n ∷ pos 0 ∷ pos 0 ∷ pos 0 ∷ pos 0 ∷ pos 0 ∷ pos 0 ∷ []
+
+pub plot-refused : (plotLine (2 ∷ []) ∷ plotLine (replicate 65538 0) ∷ plotLine (replicate 65536 0) ∷ plotLine [] ∷ plotLine (2 ∷ 0 ∷ 9 ∷ 0 ∷ []) ∷ [])
+    ≡ alone 19 ∷ alone 19 ∷ alone 13 ∷ alone 12 ∷ alone 13 ∷ []
 unfolding rules
 plot-refused = refl
+
+-- a jump to itself uses up the budget of 1,000
+pub plot-budget : plotLine (1 ∷ 0 ∷ 1 ∷ 0 ∷ 4 ∷ 0 ∷ 2 ∷ 0 ∷ 0x00 ∷ 0xE0 ∷ 0 ∷ 0 ∷ []) ≡ pos 0 ∷ pos 1000 ∷ pos 2000 ∷ pos 0 ∷ pos 0 ∷ pos 0 ∷ pos 0 ∷ []
+unfolding rules
+plot-budget = refl
 
 -- its image: four pixels of value 3, in bytes 0, 128 and 256; read back by the call
 abbrev listedImage : List ℕ
@@ -85,23 +95,71 @@ pub not-counted-pair : numbers (runCall (plain (file (0o110000 ∷ 0o040100 ∷ 
 unfolding rules
 not-counted-pair = refl
 
--- refused at a door, a call leaves all as given; with budget 0 a running machine does too
-pub turned : runCall (plain typed) fresh (0 ∷ []) 1 ≡ turnedAway fresh (0 ∷ []) 11
+-- refused at a door, a call leaves all as given and counts nothing; with budget 0 a running machine does too
+abbrev none : Counts
+none = record { steps = 0; words = 0; stores = 0 }
+
+pub turned : runCall (plain typed) fresh (7 ∷ []) 1 ≡ left (record { answer = 11; counts = none; machine = fresh }) (7 ∷ [])
 unfolding rules
 turned = refl
 
-pub no-budget : runCall (plain typed) fresh blank 0 ≡ turnedAway fresh blank 0
+pub no-budget : runCall (plain typed) fresh blank 0 ≡ left (record { answer = 0; counts = none; machine = fresh }) blank
 unfolding rules
 no-budget = refl
 
--- a start sets the counter and the status and keeps the rest; it takes odd addresses and works from every status
-abbrev worn : Machine
-worn = withStatus (withLatch (withIncrement (withWrite (inMode 5 (pos 7) (pos 9)) false) 63) true) 27
+pub cleared : (clearCall (replicate 65536 255) ∷ clearCall (7 ∷ []) ∷ []) ≡ left 0 (replicate 65536 0) ∷ left 11 (7 ∷ []) ∷ []
+unfolding rules
+cleared = refl
 
-pub started : startCall worn 5 ≡ record { answer = 0; machine = withCounter (withStatus worn 0) 5 }
+-- ---- every field of the machine, step by step
+abbrev flag : Bool → ℤ
+flag false = pos 0
+flag true = pos 1
+
+-- counter, X, Y, mode, pixel value, write, latch, increment, status
+abbrev fields : Machine → List ℤ
+fields m = pos (m .counter) ∷ m .x .0 ∷ m .y .0 ∷ pos (m .mode) ∷ pos (m .value) ∷ flag (m .write) ∷ flag (m .latch) ∷ pos (m .increment) ∷ pos (m .status) ∷ []
+
+unfoldable pub trace : Given → ℕ → Machine → List (List ℤ)
+trace g zero m = fields m ∷ []
+trace g (suc k) m = fields m ∷ trace g k (step g m .machine)
+
+-- mode and value; increment; latch; write off; a long vector; a no-op; a mode that keeps the value; an unlit graph word; an increment that is kept; write on;
+-- a status A that does nothing; a jump over two words; a stop
+abbrev program : List ℕ
+program =
+    0o112400 ∷ 0o174107 ∷ 0o171400 ∷ 0o176000 ∷ 0o000005 ∷ 0o020003 ∷ 0o164000 ∷ 0o124000 ∷ 0o000100 ∷ 0o174000 ∷ 0o176020 ∷ 0o170000 ∷ 0o160000 ∷ 30 ∷ 0 ∷ 0o172000 ∷ []
+
+pub each-step : trace (holding program) 13 fresh
+    ≡ (pos 0 ∷ pos 0 ∷ pos 0 ∷ pos 255 ∷ pos 3 ∷ pos 1 ∷ pos 0 ∷ pos 0 ∷ pos 0 ∷ [])
+    ∷ (pos 2 ∷ pos 0 ∷ pos 0 ∷ pos 2 ∷ pos 1 ∷ pos 1 ∷ pos 0 ∷ pos 0 ∷ pos 0 ∷ [])
+    ∷ (pos 4 ∷ pos 0 ∷ pos 0 ∷ pos 2 ∷ pos 1 ∷ pos 1 ∷ pos 0 ∷ pos 7 ∷ pos 0 ∷ [])
+    ∷ (pos 6 ∷ pos 0 ∷ pos 0 ∷ pos 2 ∷ pos 1 ∷ pos 1 ∷ pos 1 ∷ pos 7 ∷ pos 0 ∷ [])
+    ∷ (pos 8 ∷ pos 0 ∷ pos 0 ∷ pos 2 ∷ pos 1 ∷ pos 0 ∷ pos 1 ∷ pos 7 ∷ pos 0 ∷ [])
+    ∷ (pos 12 ∷ pos 5 ∷ negsuc 2 ∷ pos 2 ∷ pos 1 ∷ pos 0 ∷ pos 1 ∷ pos 7 ∷ pos 0 ∷ [])
+    ∷ (pos 14 ∷ pos 5 ∷ negsuc 2 ∷ pos 2 ∷ pos 1 ∷ pos 0 ∷ pos 1 ∷ pos 7 ∷ pos 0 ∷ [])
+    ∷ (pos 16 ∷ pos 5 ∷ negsuc 2 ∷ pos 5 ∷ pos 1 ∷ pos 0 ∷ pos 1 ∷ pos 7 ∷ pos 0 ∷ [])
+    ∷ (pos 18 ∷ pos 12 ∷ pos 64 ∷ pos 5 ∷ pos 1 ∷ pos 0 ∷ pos 1 ∷ pos 7 ∷ pos 0 ∷ [])
+    ∷ (pos 20 ∷ pos 12 ∷ pos 64 ∷ pos 5 ∷ pos 1 ∷ pos 0 ∷ pos 1 ∷ pos 7 ∷ pos 0 ∷ [])
+    ∷ (pos 22 ∷ pos 12 ∷ pos 64 ∷ pos 5 ∷ pos 1 ∷ pos 1 ∷ pos 1 ∷ pos 7 ∷ pos 0 ∷ [])
+    ∷ (pos 24 ∷ pos 12 ∷ pos 64 ∷ pos 5 ∷ pos 1 ∷ pos 1 ∷ pos 1 ∷ pos 7 ∷ pos 0 ∷ [])
+    ∷ (pos 30 ∷ pos 12 ∷ pos 64 ∷ pos 5 ∷ pos 1 ∷ pos 1 ∷ pos 1 ∷ pos 7 ∷ pos 0 ∷ [])
+    ∷ (pos 32 ∷ pos 12 ∷ pos 64 ∷ pos 5 ∷ pos 1 ∷ pos 1 ∷ pos 1 ∷ pos 7 ∷ pos 2 ∷ [])
+    ∷ []
+unfolding rules trace
+each-step = refl
+
+-- a start from there, at an odd address: the counter and the status are set, the rest is kept; refused, all is kept
+abbrev worn : Machine
+worn = runCall (plain (file program)) fresh blank 13 .result .machine
+
+pub started : (startCall worn 5 .answer ∷ startCall (withMode worn 7 1) 5 .answer ∷ []) ≡ 0 ∷ 16 ∷ []
 unfolding rules
 started = refl
 
-pub cleared : (clearCall (replicate 65536 255) ∷ clearCall (7 ∷ []) ∷ []) ≡ left 0 blank ∷ left 11 (7 ∷ []) ∷ []
+pub started-fields : (fields (startCall worn 5 .machine) ∷ fields (startCall (withMode worn 7 1) 5 .machine) ∷ [])
+    ≡ (pos 5 ∷ pos 12 ∷ pos 64 ∷ pos 5 ∷ pos 1 ∷ pos 1 ∷ pos 1 ∷ pos 7 ∷ pos 0 ∷ [])
+    ∷ (pos 32 ∷ pos 12 ∷ pos 64 ∷ pos 7 ∷ pos 1 ∷ pos 1 ∷ pos 1 ∷ pos 7 ∷ pos 2 ∷ [])
+    ∷ []
 unfolding rules
-cleared = refl
+started-fields = refl
