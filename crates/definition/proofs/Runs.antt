@@ -124,13 +124,13 @@ unfoldable pub trace : Given → ℕ → Machine → List (List ℤ)
 trace g zero m = fields m ∷ []
 trace g (suc k) m = fields m ∷ trace g k (step g m .machine)
 
--- mode and value; increment; latch; write off; a long vector; a no-op; a mode that keeps the value; an unlit graph word; an increment that is kept; write on;
--- a status A that does nothing; a jump over two words; a stop
+-- mode and value; increment; latch; write off; a long vector; a no-op; a mode that keeps the value; an unlit graph word; an increment that is kept; a status A
+-- that does nothing; write on; a jump over two words; write off; a stop
 abbrev program : List ℕ
 program =
-    0o112400 ∷ 0o174107 ∷ 0o171400 ∷ 0o176000 ∷ 0o000005 ∷ 0o020003 ∷ 0o164000 ∷ 0o124000 ∷ 0o000100 ∷ 0o174000 ∷ 0o176020 ∷ 0o170000 ∷ 0o160000 ∷ 30 ∷ 0 ∷ 0o172000 ∷ []
+    0o112400 ∷ 0o174107 ∷ 0o171400 ∷ 0o176000 ∷ 0o000005 ∷ 0o020003 ∷ 0o164000 ∷ 0o124000 ∷ 0o000100 ∷ 0o174000 ∷ 0o170000 ∷ 0o176020 ∷ 0o160000 ∷ 30 ∷ 0 ∷ 0o176000 ∷ 0o172000 ∷ []
 
-pub each-step : trace (holding program) 13 fresh
+pub each-step : trace (holding program) 14 fresh
     ≡ (pos 0 ∷ pos 0 ∷ pos 0 ∷ pos 255 ∷ pos 3 ∷ pos 1 ∷ pos 0 ∷ pos 0 ∷ pos 0 ∷ [])
     ∷ (pos 2 ∷ pos 0 ∷ pos 0 ∷ pos 2 ∷ pos 1 ∷ pos 1 ∷ pos 0 ∷ pos 0 ∷ pos 0 ∷ [])
     ∷ (pos 4 ∷ pos 0 ∷ pos 0 ∷ pos 2 ∷ pos 1 ∷ pos 1 ∷ pos 0 ∷ pos 7 ∷ pos 0 ∷ [])
@@ -141,25 +141,26 @@ pub each-step : trace (holding program) 13 fresh
     ∷ (pos 16 ∷ pos 5 ∷ negsuc 2 ∷ pos 5 ∷ pos 1 ∷ pos 0 ∷ pos 1 ∷ pos 7 ∷ pos 0 ∷ [])
     ∷ (pos 18 ∷ pos 12 ∷ pos 64 ∷ pos 5 ∷ pos 1 ∷ pos 0 ∷ pos 1 ∷ pos 7 ∷ pos 0 ∷ [])
     ∷ (pos 20 ∷ pos 12 ∷ pos 64 ∷ pos 5 ∷ pos 1 ∷ pos 0 ∷ pos 1 ∷ pos 7 ∷ pos 0 ∷ [])
-    ∷ (pos 22 ∷ pos 12 ∷ pos 64 ∷ pos 5 ∷ pos 1 ∷ pos 1 ∷ pos 1 ∷ pos 7 ∷ pos 0 ∷ [])
+    ∷ (pos 22 ∷ pos 12 ∷ pos 64 ∷ pos 5 ∷ pos 1 ∷ pos 0 ∷ pos 1 ∷ pos 7 ∷ pos 0 ∷ [])
     ∷ (pos 24 ∷ pos 12 ∷ pos 64 ∷ pos 5 ∷ pos 1 ∷ pos 1 ∷ pos 1 ∷ pos 7 ∷ pos 0 ∷ [])
     ∷ (pos 30 ∷ pos 12 ∷ pos 64 ∷ pos 5 ∷ pos 1 ∷ pos 1 ∷ pos 1 ∷ pos 7 ∷ pos 0 ∷ [])
-    ∷ (pos 32 ∷ pos 12 ∷ pos 64 ∷ pos 5 ∷ pos 1 ∷ pos 1 ∷ pos 1 ∷ pos 7 ∷ pos 2 ∷ [])
+    ∷ (pos 32 ∷ pos 12 ∷ pos 64 ∷ pos 5 ∷ pos 1 ∷ pos 0 ∷ pos 1 ∷ pos 7 ∷ pos 0 ∷ [])
+    ∷ (pos 34 ∷ pos 12 ∷ pos 64 ∷ pos 5 ∷ pos 1 ∷ pos 0 ∷ pos 1 ∷ pos 7 ∷ pos 2 ∷ [])
     ∷ []
 unfolding rules trace
 each-step = refl
 
 -- a start from there, at an odd address: the counter and the status are set, the rest is kept; refused, all is kept
 abbrev worn : Machine
-worn = runCall (plain (file program)) fresh blank 13 .result .machine
+worn = runCall (plain (file program)) fresh blank 14 .result .machine
 
 pub started : (startCall worn 5 .answer ∷ startCall (withMode worn 7 1) 5 .answer ∷ []) ≡ 0 ∷ 16 ∷ []
 unfolding rules
 started = refl
 
 pub started-fields : (fields (startCall worn 5 .machine) ∷ fields (startCall (withMode worn 7 1) 5 .machine) ∷ [])
-    ≡ (pos 5 ∷ pos 12 ∷ pos 64 ∷ pos 5 ∷ pos 1 ∷ pos 1 ∷ pos 1 ∷ pos 7 ∷ pos 0 ∷ [])
-    ∷ (pos 32 ∷ pos 12 ∷ pos 64 ∷ pos 7 ∷ pos 1 ∷ pos 1 ∷ pos 1 ∷ pos 7 ∷ pos 2 ∷ [])
+    ≡ (pos 5 ∷ pos 12 ∷ pos 64 ∷ pos 5 ∷ pos 1 ∷ pos 0 ∷ pos 1 ∷ pos 7 ∷ pos 0 ∷ [])
+    ∷ (pos 34 ∷ pos 12 ∷ pos 64 ∷ pos 7 ∷ pos 1 ∷ pos 0 ∷ pos 1 ∷ pos 7 ∷ pos 2 ∷ [])
     ∷ []
 unfolding rules
 started-fields = refl

@@ -11,9 +11,9 @@ use lib.Dec.{eqb, ltb}
 use lib.ListN.{length}
 use borrow.Author.Tests.{eq-eqb, ne-eqb}
 use Rattle.definition.specs.Choice.{within}
-use Rattle.definition.specs.Image.{imageBytes, Left, left}
+use Rattle.definition.specs.Image.{imageBytes, Left}
 use Rattle.definition.specs.File.{tag, segments, header, keepBelow, headDoors, segmentDoors, fileDoors}
-use Rattle.definition.specs.Machine.{withStatus, machineDoors}
+use Rattle.definition.specs.Machine.{machineDoors}
 use Rattle.definition.specs.Step.{Given, refusal, step}
 use Rattle.definition.specs.Run.{State, begun, run}
 use Rattle.definition.specs.Calls.{imageDoors, budgetDoors, runningDoors, Lent, given, checkCall, runDoors, runDoor, answered, turnedAway, runCall}
@@ -21,6 +21,7 @@ use Rattle.definition.specs.declared.Machine.{Machine}
 use Rattle.definition.specs.declared.Ran.{Ran}
 use Rattle.definition.proofs.Exactly.{Answers, exactly, none}
 use Rattle.definition.proofs.Plain.{_so_, _and_, _or_, itself, back, is-less, not-less, is-most, is-equal, not-equal, not-true, not-false, both-true, either-true, failing, never}
+use Rattle.demands.specs.Outcomes.{refusedAfter}
 use Rattle.demands.specs.Conditions.{Accepted, Fits, Open, During}
 use Rattle.demands.proofs.Runs.{on, step-done, step-refused, refused-only, run-turn, run-stopped, run-add}
 use Rattle.demands.proofs.Kept.{fits, first-is, run-fits}
@@ -80,10 +81,6 @@ budget-used g (suc b) s q = go (ℕ-discrete (s .machine .status) 0) (ℕ-discre
         let t = run-turn g b s z in
         let st : step g (s .machine) .machine .status ≡ refusal g (s .machine) = rw (step-refused g (s .machine) r) in
         absurd (r (sym st ∙ sym (ap (λ (t : State). t .machine .status) (run-stopped g b (on g s) (λ e. r (sym st ∙ e)))) ∙ sym (ap (λ (t : State). t .machine .status) t) ∙ q))
-
--- what a run leaves whose next instruction, from this state, is refused
-abbrev pub refusedAfter : ℕ → State → Left Ran
-refusedAfter n s = left (record { answer = n; counts = s .counts; machine = withStatus (s .machine) n }) (s .image)
 
 -- ---- the doors of a run
 module _ (l : Lent) (m : Machine) (im : List ℕ) (b : ℕ) where

@@ -31,6 +31,7 @@ use Rattle.demands.specs.Conditions.{Head, Keeps, Accepted, SameHeader, 
 use Rattle.demands.specs.Ledger.{completed, changes, settled}
 use Rattle.demands.specs.Graphs.{AlongX, AlongY, weeks, shown, Ready, plotted}
 use Rattle.demands.specs.Exact.{exact}
+use Rattle.demands.specs.Outcomes.{refusedAfter, plus}
 use Rattle.demands.proofs.Runs as runs
 use Rattle.demands.proofs.Kept as kept
 use Rattle.demands.proofs.Outside as outside
@@ -72,7 +73,7 @@ refused-instruction = runs.refused-only
 
 -- in a run: the k steps before it stand, with their machine, their image and their counts
 pub refused-in-a-run : (l : Lent) (m : Machine) (im : List ℕ) (b n : ℕ) → 21 ≤ n → n ≤ 27 → runCall l m im b .result .answer ≡ n
-    → (k : ℕ) × ((k < b) × ((run (given l) k (begun m im) .counts .steps ≡ k) × (runCall l m im b ≡ calls.refusedAfter n (run (given l) k (begun m im)))))
+    → (k : ℕ) × ((k < b) × ((run (given l) k (begun m im) .counts .steps ≡ k) × (runCall l m im b ≡ refusedAfter n (run (given l) k (begun m im)))))
 refused-in-a-run = calls.run-refused
 
 -- ---- a run keeps the machine in range and the image's length
@@ -247,7 +248,7 @@ row-position g s ws r = ap (λ (t : State). t .machine .y) (graphs.plot-then-ste
 
 -- ---- nothing is hidden between steps: a run of b + c is a run of b and then one of c, the counts summed
 pub runs-in-a-row : (g : Given) (b c : ℕ) (m : Machine) (im : List ℕ)
-    → run g (b + c) (begun m im) ≡ runs.plus (run g b (begun m im) .counts) (run g c (begun (run g b (begun m im) .machine) (run g b (begun m im) .image)))
+    → run g (b + c) (begun m im) ≡ plus (run g b (begun m im) .counts) (run g c (begun (run g b (begun m im) .machine) (run g b (begun m im) .image)))
 runs-in-a-row = runs.run-twice
 
 -- ==== Demand 3

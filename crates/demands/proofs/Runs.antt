@@ -14,6 +14,7 @@ use Rattle.definition.specs.Step.{Given, Step, completes, refuses, second, inst
 use Rattle.definition.specs.Run.{nothing, summed, State, begun, after, run}
 use Rattle.definition.specs.declared.Machine.{Machine}
 use Rattle.definition.specs.declared.Counts.{Counts}
+use Rattle.demands.specs.Outcomes.{plus}
 
 pub pick-keeps : {A : Type 0} (P : A → Type 0) (t : Bool) {a b : A} → (t ≡ true → P a) → (t ≡ false → P b) → P (pick t a b)
 pick-keeps P true p q = p refl
@@ -22,10 +23,6 @@ pick-keeps P false p q = q refl
 -- nothing adds nothing
 pub summed-nothing : (a : Counts) → summed a nothing ≡ a
 summed-nothing a = simp add-zero
-
--- counts from before, added
-abbrev pub plus : Counts → State → State
-plus t s = record { machine = s .machine; image = s .image; counts = summed t (s .counts) }
 
 pick-plus : (b : Bool) (t : Counts) (x s : State) → pick b (plus t x) (plus t s) ≡ plus t (pick b x s)
 pick-plus true t x s = refl

@@ -2,3 +2,4 @@ pub mod Ledger
 pub mod Conditions
 pub mod Exact
 pub mod Graphs
+pub mod Outcomes
