@@ -56,10 +56,10 @@ exactly n [] p = (λ q. omega arith, λ w. absurd w)
 exactly n (t ∷ ts) p = one (t .holds) (t .number) (firstOf ts) n (Answers n ts) (eqb (t .number) n) (names n ts) refl (absent n ts p) (exactly n ts p)
 
 -- 0 exactly when no test holds, where no test has the number 0
-pub none : (ts : List Test) → names 0 ts ≡ false → (firstOf ts ≡ 0) ↔ None ts
+pub none-holds : (ts : List Test) → names 0 ts ≡ false → (firstOf ts ≡ 0) ↔ None ts
 unfolding firstOf
-none [] e = (λ q. tt, λ w. refl)
-none (t ∷ ts) e = go (t .holds) (eqb (t .number) 0) refl e (λ e. none ts e)
+none-holds [] e = (λ q. tt, λ w. refl)
+none-holds (t ∷ ts) e = go (t .holds) (eqb (t .number) 0) refl e (λ e. none-holds ts e)
   where
     go : (h k : Bool) → eqb (t .number) 0 ≡ k → k || names 0 ts ≡ false → (names 0 ts ≡ false → (firstOf ts ≡ 0) ↔ None ts)
         → (pick h (t .number) (firstOf ts) ≡ 0) ↔ ((h ≡ false) × None ts)
@@ -73,7 +73,7 @@ Fails n [] = Unit {0}
 Fails n (t ∷ ts) = pick (eqb (t .number) n) (pick (names n ts) ((t .holds ≡ false) × Fails n ts) (t .holds ≡ false)) (Fails n ts)
 
 pub fails : (n : ℕ) (ts : List Test) → names 0 ts ≡ false → firstOf ts ≡ 0 → Fails n ts
-fails n ts e z = go ts (none ts e .0 z)
+fails n ts e z = go ts (none-holds ts e .0 z)
   where
     one-fails : (t : Test) (k m : Bool) (G : Type 0) → t .holds ≡ false → G → pick k (pick m ((t .holds ≡ false) × G) (t .holds ≡ false)) G
     one-fails t true true G h g = (h, g)

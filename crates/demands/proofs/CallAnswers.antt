@@ -19,7 +19,7 @@ use Rattle.definition.specs.Run.{State, begun, run}
 use Rattle.definition.specs.Calls.{imageDoors, budgetDoors, runningDoors, Lent, given, checkCall, runDoors, runDoor, answered, turnedAway, runCall}
 use Rattle.definition.specs.declared.Machine.{Machine}
 use Rattle.definition.specs.declared.Ran.{Ran}
-use Rattle.definition.proofs.Exactly.{Answers, exactly, none}
+use Rattle.definition.proofs.Exactly.{Answers, exactly, none-holds}
 use Rattle.definition.proofs.Plain.{_so_, _and_, _or_, itself, back, is-less, not-less, is-most, is-equal, not-equal, not-true, not-false, both-true, either-true, failing, never}
 use Rattle.demands.specs.Outcomes.{refusedAfter}
 use Rattle.demands.specs.Conditions.{Accepted, Fits, Open, During}
@@ -103,8 +103,8 @@ module _ (l : Lent) (m : Machine) (im : List ℕ) (b : ℕ) where
   filed p =
       (not-false so is-equal)
       and ((
-        λ w. (check-0 f .0 (none (fileDoors f) refl .1 (w .0, (w .1 .0, (w .1 .1 .0, (w .1 .1 .1 .0, (w .1 .1 .1 .1 .0, tt)))))), p .0 (w .1 .1 .1 .1 .1)),
-        λ q. let c = none (fileDoors f) refl .0 (check-0 f .1 (q .0)) in (c .0, (c .1 .0, (c .1 .1 .0, (c .1 .1 .1 .0, (c .1 .1 .1 .1 .0, p .1 (q .1)))))),
+        λ w. (check-0 f .0 (none-holds (fileDoors f) refl .1 (w .0, (w .1 .0, (w .1 .1 .0, (w .1 .1 .1 .0, (w .1 .1 .1 .1 .0, tt)))))), p .0 (w .1 .1 .1 .1 .1)),
+        λ q. let c = none-holds (fileDoors f) refl .0 (check-0 f .1 (q .0)) in (c .0, (c .1 .0, (c .1 .1 .0, (c .1 .1 .1 .0, (c .1 .1 .1 .1 .0, p .1 (q .1)))))),
       ))
 
   door-11 : (door ≡ 11) ↔ (length im ≡ imageBytes → ⊥)
@@ -143,7 +143,7 @@ module _ (l : Lent) (m : Machine) (im : List ℕ) (b : ℕ) where
   pub door-0 : (door ≡ 0) ↔ Open l m im b
   unfolding runDoor runDoors imageDoors fileDoors headDoors segmentDoors machineDoors budgetDoors runningDoors
   door-0 =
-      none (runDoors l m im b) refl so filed ((not-false so fits m) and not-less and (not-false so is-equal) and itself)
+      none-holds (runDoors l m im b) refl so filed ((not-false so fits m) and not-less and (not-false so is-equal) and itself)
       so (
         λ w. record { image = w .0; file = w .1 .0; machine = w .1 .1 .0; budget = w .1 .1 .1 .0; running = w .1 .1 .1 .1 .0 },
         λ o. (o .image, (o .file, (o .machine, (o .budget, (o .running, tt))))),

@@ -13,7 +13,7 @@ use Rattle.definition.specs.File.{tag, segments, offset, size, header, keeps, k
 use Rattle.definition.specs.Calls.{checkCall}
 use Rattle.definition.specs.declared.Unfetched.the-variants.{Odd, NoSegment, NoPlace}
 use Rattle.definition.specs.declared.Fetched.the-variants.{Word, Refused}
-use Rattle.definition.proofs.Exactly.{apart, Answers, exactly, none}
+use Rattle.definition.proofs.Exactly.{apart, Answers, exactly, none-holds}
 use Rattle.definition.proofs.Plain.{_so_, _and_, _or_, itself, is-less, not-less, is-most, not-most, is-equal, not-equal, not-true, not-false, both-true, either-true, either-false, failing}
 use Rattle.demands.specs.Conditions.{Head, Keeps, Accepted}
 
@@ -97,7 +97,7 @@ module _ (f : List ℕ) where
   pub check-0 : (checkCall f ≡ 0) ↔ Accepted f
   unfolding checkCall fileDoors headDoors segmentDoors
   check-0 =
-      none (fileDoors f) refl so headed ((not-false so all-keep f (segments f)) and itself)
+      none-holds (fileDoors f) refl so headed ((not-false so all-keep f (segments f)) and itself)
       so (λ w. record { head = w .0; each = w .1 .0 }, λ a. (a .head, (a .each, tt)))
 
 -- ---- the fetch
@@ -134,7 +134,7 @@ module _ (f : List ℕ) (a : ℕ) where
   fetch-word = (λ e. passes .0 (sym as-tests ∙ ap numberIn e), λ w. found (passes .1 w))
     where
       passes : (firstOf tests ≡ 0) ↔ ((a % 2 ≡ 0) × ((segmentOf a < segments f) × (placeOf a < size f (segmentOf a))))
-      passes = none tests refl so (not-false so is-equal) and not-most and not-most and itself so (λ w. (w .0, (w .1 .0, w .1 .1 .0)), λ w. (w .0, (w .1 .0, (w .1 .1, tt))))
+      passes = none-holds tests refl so (not-false so is-equal) and not-most and not-most and itself so (λ w. (w .0, (w .1 .0, w .1 .1 .0)), λ w. (w .0, (w .1 .0, (w .1 .1, tt))))
 
       found : firstOf tests ≡ 0 → fetch f a ≡ Word (getD f (offset f (segmentOf a) + placeOf a) 0)
-      found z = let n = none tests refl .0 z in rw (n .0, n .1 .0, n .1 .1 .0)
+      found z = let n = none-holds tests refl .0 z in rw (n .0, n .1 .0, n .1 .1 .0)

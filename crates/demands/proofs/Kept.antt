@@ -9,7 +9,7 @@ use lib.Dec.{eqb}
 use lib.ListN.{length}
 use Rattle.definition.specs.Choice.{pick, within, Test, firstOf}
 use Rattle.definition.specs.File.{fetchRefusals}
-use Rattle.definition.specs.Words.{bit, code, setsMode, order, decode, firstRefusals, secondRefusals}
+use Rattle.definition.specs.Words.{none, bit, code, setsMode, order, decode, firstRefusals, secondRefusals}
 use Rattle.definition.specs.Machine.{shapeOf, inRange, isMode, isStatus, ranged}
 use Rattle.definition.specs.Step.{Change, wayOf, changed, leaves, ordered, done, Given, first, second, instruction, wayRefusals, refusals, refusal, step}
 use Rattle.definition.specs.Step.Change.{Stay, Set, Move}
@@ -31,7 +31,7 @@ pub in-range : {u : Units} → (inRange u ≡ true) ↔ InRange u
 unfolding inRange
 in-range = both-true so is-mostZ and is-mostZ so (λ w. record { low = w .0; high = w .1 }, λ r. (r .low, r .high))
 
-is-mode : {k : ℕ} → (isMode k ≡ true) ↔ ((k ≡ 255) ⊎ ((1 ≤ k) × (k ≤ 6)))
+is-mode : {k : ℕ} → (isMode k ≡ true) ↔ ((k ≡ none) ⊎ ((1 ≤ k) × (k ≤ 6)))
 unfolding isMode setsMode
 is-mode = either-true so is-equal or (both-true so is-most and is-most)
 

@@ -19,7 +19,7 @@ use Rattle.definition.specs.declared.Pixel.{Pixel}
 use Rattle.definition.specs.declared.Machine.{Machine}
 use Rattle.definition.specs.declared.Started.{Started}
 use Rattle.definition.specs.declared.Read.{Read}
-use Rattle.definition.proofs.Exactly.{exactly, none}
+use Rattle.definition.proofs.Exactly.{exactly, none-holds}
 use Rattle.definition.proofs.Plain.{_so_, _and_, _or_, itself, is-less, is-equal, not-equal, is-mostZ, is-lessZ, not-true, not-false, both-true, either-true, failing, never}
 use Rattle.demands.specs.Conditions.{Fits, InField}
 use Rattle.demands.proofs.Kept.{fits}
@@ -32,7 +32,7 @@ module _ (m : Machine) (a : ℕ) where
   start-0 = (λ e. given .0 (ap (λ (r : Started). r .answer) e), λ f. rw (given .1 f))
     where
       given : (firstOf (machineDoors m) ≡ 0) ↔ Fits m
-      given = none (machineDoors m) refl so (not-false so fits m) and itself so (λ w. w .0, λ f. (f, tt))
+      given = none-holds (machineDoors m) refl so (not-false so fits m) and itself so (λ w. w .0, λ f. (f, tt))
 
   pub start-16 : (startCall m a ≡ record { answer = 16; machine = m }) ↔ (Fits m → ⊥)
   unfolding startCall machineDoors
@@ -48,7 +48,7 @@ module _ (im : List ℕ) where
   clear-0 = (λ e. given .0 (ap (λ (r : Left ℕ). r .result) e), λ h. rw (given .1 h))
     where
       given : (firstOf (imageDoors im) ≡ 0) ↔ (length im ≡ imageBytes)
-      given = none (imageDoors im) refl so (not-false so is-equal) and itself so (λ w. w .0, λ h. (h, tt))
+      given = none-holds (imageDoors im) refl so (not-false so is-equal) and itself so (λ w. w .0, λ h. (h, tt))
 
   pub clear-11 : (clearCall im ≡ left 11 im) ↔ (length im ≡ imageBytes → ⊥)
   unfolding clearCall imageDoors
@@ -85,7 +85,7 @@ module _ (s : Shape) (im : List ℕ) (p : Pixel) where
     where
       given : (firstOf (imageDoors im ++ fieldDoors s p) ≡ 0) ↔ ((length im ≡ imageBytes) × InField s p)
       given =
-          none (imageDoors im ++ fieldDoors s p) refl so (not-false so is-equal) and (not-false so in-field) and itself
+          none-holds (imageDoors im ++ fieldDoors s p) refl so (not-false so is-equal) and (not-false so in-field) and itself
           so (λ w. (w .0, w .1 .0), λ w. (w .0, (w .1, tt)))
 
 -- ---- plot

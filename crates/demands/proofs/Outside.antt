@@ -15,7 +15,7 @@ use Rattle.definition.specs.declared.Unfetched.the-variants.{Odd, NoSegment, No
 use Rattle.definition.specs.declared.Fetched.{Fetched}
 use Rattle.definition.specs.declared.Fetched.the-variants.{Word, Refused}
 use Rattle.definition.specs.declared.Machine.{Machine}
-use Rattle.definition.proofs.Exactly.{none}
+use Rattle.definition.proofs.Exactly.{none-holds}
 use Rattle.demands.specs.Conditions.{Accepted, SameHeader, SameWords}
 use Rattle.demands.proofs.FileAnswers.{check-0}
 
@@ -64,8 +64,8 @@ module _ (f g : List ℕ) (h : SameWords f g) where
     same-door : runDoor (plain f) m im b ≡ runDoor (plain g) m im b
     unfolding runDoor runDoors checkCall fileDoors headDoors segmentDoors firstOf
     same-door =
-        let c = none (fileDoors f) refl .0 (check-0 f .1 p) in
-        let d = none (fileDoors g) refl .0 (check-0 g .1 q) in
+        let c = none-holds (fileDoors f) refl .0 (check-0 f .1 p) in
+        let d = none-holds (fileDoors g) refl .0 (check-0 g .1 q) in
         rw (c .0, c .1 .0, c .1 .1 .0, c .1 .1 .1 .0, c .1 .1 .1 .1 .0, d .0, d .1 .0, d .1 .1 .0, d .1 .1 .1 .0, d .1 .1 .1 .1 .0)
 
     pub same-run : runCall (plain f) m im b ≡ runCall (plain g) m im b

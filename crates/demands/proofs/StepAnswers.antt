@@ -9,7 +9,7 @@ use lib.Dec.{eqb, leb}
 use borrow.Author.Tests.{eq-eqb, eqb-true, leb-true}
 use Rattle.definition.specs.Choice.{pick}
 use Rattle.definition.specs.File.{numberIn, fetchRefusals}
-use Rattle.definition.specs.Words.{bit, code, setsMode, notBuilt, order, decode, hasSecond, firstRefusals, secondRefusals}
+use Rattle.definition.specs.Words.{none, bit, code, setsMode, notBuilt, order, decode, hasSecond, firstRefusals, secondRefusals}
 use Rattle.definition.specs.Step.{Change, changed, leaves, ordered, done, Given, first, second, instruction, wayRefusals, refusals, refusal, Step, step}
 use Rattle.definition.specs.Step.Change.{Stay, Set, Move}
 use Rattle.definition.specs.declared.Units.{Units}
@@ -19,7 +19,7 @@ use Rattle.definition.specs.declared.Fetched.{Fetched}
 use Rattle.definition.specs.declared.Fetched.the-variants.{Word, Refused}
 use Rattle.definition.specs.declared.Order.{Order}
 use Rattle.definition.specs.declared.Order.the-variants.{SetMode, Jump, NoOp, StatusA, Increment, StatusC}
-use Rattle.definition.proofs.Exactly.{apart, Answers, exactly, none}
+use Rattle.definition.proofs.Exactly.{apart, Answers, exactly, none-holds}
 use Rattle.definition.proofs.Plain.{_so_, _and_, _or_, itself, back, is-equal, not-equal, not-true, not-false, both-true, either-true, either-false, failing, never, implies, unless, over}
 use Rattle.demands.specs.Conditions.{InRange, Fits, On, Off, NotBuilt, NoMode, Pair, word, more, Begins, Continues, FetchRefused, taken, newX, newY, Stops, stopNumber, LatchIs}
 use Rattle.demands.proofs.Runs.{pick-keeps, step-done, step-refused}
@@ -93,7 +93,7 @@ module _ (g : Given) (m : Machine) where
 
   -- the first fetch gives a word, and neither 24 nor 25 is for it
   begun : {G H : Type 0} → G ↔ H
-      → Passed (first g m) ((bit 15 w && notBuilt (code w) ≡ false) × ((not (bit 15 w) && eqb (m .mode) 255 ≡ false) × G)) ↔ (Begins g m × H)
+      → Passed (first g m) ((bit 15 w && notBuilt (code w) ≡ false) × ((not (bit 15 w) && eqb (m .mode) none ≡ false) × G)) ↔ (Begins g m × H)
   begun p =
       passed (first g m) ((failing so never (not-built w)) and (failing so never (no-mode (m .mode) w)) and p)
       so (λ q. (record { fetched = q .0; built = q .1 .0; moded = q .1 .1 .0 }, q .1 .1 .1), λ q. (q .0 .fetched, (q .0 .built, (q .0 .moded, q .1))))
@@ -140,7 +140,7 @@ module _ (g : Given) (m : Machine) where
   refused-0 : Fits m → (refusal g m ≡ 0) ↔ (Continues g m × (InRange (newX g m) × InRange (newY g m)))
   unfolding refusal refusals fetchRefusals firstRefusals secondRefusals wayRefusals
   refused-0 f =
-      none (refusals m (first g m) (instruction g m) (second g m)) refl
+      none-holds (refusals m (first g m) (instruction g m) (second g m)) refl
       so begun (
       passed-if (hasSecond (instruction g m)) (second g m) ((unless so implies (is-pair (m .mode) w) (off v)) and (either-false so staying (taken g m .x) (f .x) and staying (taken g m .y) (f .y)) and itself)
       so implies (has-second (m .mode) w) itself and itself

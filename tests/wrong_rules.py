@@ -1,0 +1,267 @@
+#!/usr/bin/env python3
+"""Wrong rules, one at a time: each is put into a copy of the definition, and a worked example must refuse it.
+
+Not part of ./test, for the time that it takes (some 15 minutes): run it when a rule or an example has changed.
+It prints each rule that behaves other than it is marked, and exits 0 where there is none.
+"""
+import os
+import pathlib
+import re
+import shutil
+import subprocess
+import sys
+import tempfile
+from concurrent.futures import ThreadPoolExecutor
+
+TOP = pathlib.Path(__file__).resolve().parent.parent
+EXAMPLES = ["Opened", "Worked", "Layouts", "Readings", "Runs", "Numbers"]
+
+# A rule that gives other outcomes, and one that nobody can tell from the right one (docs/DECISIONS.md, 10).
+WRONG, SAME = "wrong", "same"
+
+# Marked, named, in a file of specs/: the text that stands there once, and what is put in its place.
+RULES = [
+    # ---- Image
+    (WRONG, 'field one wider', 'Image', 'below (s .width) (p .x .0)', 'below (1 + s .width) (p .x .0)'),
+    (WRONG, 'field one higher', 'Image', 'below (s .height) (p .y .0)', 'below (1 + s .height) (p .y .0)'),
+    (WRONG, 'field from 1', 'Image', 'leZ (pos 0) z', 'leZ (pos 1) z'),
+    (WRONG, 'field from -1', 'Image', 'leZ (pos 0) z && ltZ z (pos n)', 'ltZ z (pos n)'),
+    (WRONG, 'row of 129', 'Image', 'row = 128', 'row = 129'),
+    (WRONG, '3 digits a byte', 'Image', 'digits = 4', 'digits = 3'),
+    (WRONG, 'base 3', 'Image', 'base = 4', 'base = 3'),
+    (WRONG, 'image bytes', 'Image', 'imageBytes = 65536', 'imageBytes = 65535'),
+    (WRONG, 'blank of 1', 'Image', 'replicate imageBytes 0', 'replicate imageBytes 1'),
+    (WRONG, 'units Y 4', 'Image', 'unitsY = 2', 'unitsY = 4'),
+    (WRONG, 'units X 4', 'Image', 'unitsX = 2', 'unitsX = 4'),
+    (WRONG, 'x y swapped in pixelAt', 'Image', 'record { x = pixelsOf (s .unitsX) x; y = pixelsOf (s .unitsY) y }', 'record { x = pixelsOf (s .unitsX) y; y = pixelsOf (s .unitsY) x }'),
+    (WRONG, 'putDigit keeps too little', 'Image', '* b ^ k + byte % b ^ k', '* b ^ k'),
+    (WRONG, 'putDigit loses above', 'Image', '(byte / (b ^ k * b) * b + v)', 'v'),
+    (WRONG, 'put ors', 'Image', '(byte / (b ^ k * b) * b + v) * b ^ k + byte % b ^ k', 'byte + v * b ^ k'),
+    (WRONG, 'stores the old', 'Image', '(pen (digitAt s im x y)))', '(digitAt s im x y))'),
+    (WRONG, 'inside drops none', 'Image', 'pick (inField s p) (p ∷ inside s ps) (inside s ps)', 'p ∷ inside s ps'),
+    # ---- File
+    (WRONG, 'tag 2', 'File', 'not (eqb (tag f) 1)', 'not (eqb (tag f) 2)'),
+    (WRONG, 'n to 9', 'File', 'ltb 8 (segments f)', 'ltb 9 (segments f)'),
+    (WRONG, 'n to 7', 'File', 'ltb 8 (segments f)', 'ltb 7 (segments f)'),
+    (WRONG, 'n 0 taken', 'File', '(eqb (segments f) 0 || ltb 8 (segments f))', 'ltb 8 (segments f)'),
+    (WRONG, 'header 1 + 2n', 'File', 'header f = 2 + 2 * segments f', 'header f = 1 + 2 * segments f'),
+    (WRONG, 'no header 12', 'File', '    ∷ 12 when ltb (length f) (header f)\n', ''),
+    (WRONG, 'no two-word 12', 'File', '    12 when ltb (length f) 2\n    ∷ 13', '    13'),
+    (WRONG, 'length 4097', 'File', 'leb long 4096', 'leb long 4097'),
+    (WRONG, 'length 4095', 'File', 'leb long 4096', 'leb long 4095'),
+    (WRONG, 'offset in header', 'File', 'leb head start && leb long 4096', 'leb long 4096'),
+    (WRONG, 'offset alone', 'File', 'leb (start + long) words', 'leb start words'),
+    (WRONG, 'sum below', 'File', 'leb (start + long) words', 'ltb (start + long) words'),
+    (WRONG, 'last segment not asked', 'File', 'keepBelow f (suc i) = keeps (header f) (length f) (offset f i) (size f i) && keepBelow f i', 'keepBelow f (suc i) = keepBelow f i'),
+    (WRONG, 'only first', 'File', 'keepBelow f (segments f)', 'keepBelow f 1'),
+    (WRONG, 'offset size swapped', 'File', 'offset f i = getD f (2 + 2 * i) 0', 'offset f i = getD f (3 + 2 * i) 0'),
+    (WRONG, 'segment by w/4095', 'File', 'a / 2 / 4096', 'a / 2 / 4095'),
+    (WRONG, 'place mod 4095', 'File', 'a / 2 % 4096', 'a / 2 % 4095'),
+    (WRONG, 'odd taken', 'File', 'pick (not (eqb (a % 2) 0)) (Refused Odd)\n    (pick', '(pick'),
+    (WRONG, 'segment n taken', 'File', 'leb (segments f) (segmentOf a)', 'ltb (segments f) (segmentOf a)'),
+    (WRONG, 'place at length', 'File', 'leb (size f (segmentOf a)) (placeOf a)', 'ltb (size f (segmentOf a)) (placeOf a)'),
+    (WRONG, 'no offset in fetch', 'File', '(Word (getD f (offset f (segmentOf a) + placeOf a) 0))', '(Word (getD f (header f + placeOf a) 0))'),
+    (WRONG, '21 22 numbers', 'File', 'numberOf NoSegment = 22', 'numberOf NoSegment = 21'),
+    # ---- Words
+    (WRONG, 'code bits', 'Words', 'code w = bits 14 11 w', 'code w = bits 13 11 w'),
+    (WRONG, 'modes to 5', 'Words', 'within 1 6 c', 'within 1 5 c'),
+    (WRONG, '24 from 8', 'Words', 'within 7 11 c', 'within 8 11 c'),
+    (WRONG, '24 to 10', 'Words', 'within 7 11 c', 'within 7 10 c'),
+    (WRONG, '24 not 0', 'Words', 'eqb c 0 || within 7 11 c', 'within 7 11 c'),
+    (WRONG, 'mode bit 9', 'Words', 'sets = bit 10 w; value', 'sets = bit 9 w; value'),
+    (WRONG, 'value bits 9 7', 'Words', 'sets = bit 10 w; value = bits 9 8 w', 'sets = bit 10 w; value = bits 8 7 w'),
+    (WRONG, 'latch bits', 'Words', 'loads = bit 9 w; latch = bit 8 w', 'loads = bit 8 w; latch = bit 9 w'),
+    (WRONG, 'stop bit', 'Words', 'stops = bit 10 w', 'stops = bit 7 w'),
+    (WRONG, 'status C write bit', 'Words', 'write = bit 4 w', 'write = bit 5 w'),
+    (WRONG, 'status C channel', 'Words', 'channel = bits 9 8 w', 'channel = bits 8 8 w'),
+    (WRONG, 'increment bit', 'Words', 'sets = bit 6 w; increment', 'sets = bit 7 w; increment'),
+    (WRONG, 'increment 7 bits', 'Words', 'increment = bits 5 0 w', 'increment = bits 6 0 w'),
+    (WRONG, 'increment 5 bits', 'Words', 'increment = bits 5 0 w', 'increment = bits 5 1 w'),
+    (WRONG, 'short X size', 'Words', 'bits 12 7 w', 'bits 11 7 w'),
+    (WRONG, 'short Y size', 'Words', 'move (bit 6 w) (bits 5 0 w)', 'move (bit 6 w) (bits 4 0 w)'),
+    (WRONG, 'short Y sign', 'Words', 'move (bit 6 w) (bits 5 0 w)', 'move (bit 7 w) (bits 5 0 w)'),
+    (WRONG, 'long size', 'Words', 'long w = move (bit 13 w) (bits 9 0 w)', 'long w = move (bit 13 w) (bits 10 0 w)'),
+    (WRONG, 'long sign', 'Words', 'long w = move (bit 13 w) (bits 9 0 w)', 'long w = move (bit 12 w) (bits 9 0 w)'),
+    (WRONG, 'coordinate 11 bits', 'Words', 'coordinate w = units (pos (bits 9 0 w))', 'coordinate w = units (pos (bits 10 0 w))'),
+    (WRONG, 'coordinate signed', 'Words', 'coordinate w = units (pos (bits 9 0 w))', 'coordinate w = move (bit 13 w) (bits 9 0 w)'),
+    (WRONG, 'lit bit', 'Words', 'Draws (bit 14 w)', 'Draws (bit 13 w)'),
+    (WRONG, 'lit always', 'Words', 'Draws (bit 14 w)', 'Draws true'),
+    (WRONG, 'modes 4 5 swapped', 'Words', 'pick (eqb mode 4) (GraphX', 'pick (eqb mode 5) (GraphX'),
+    (WRONG, '25 never', 'Words', 'eqb mode none)', 'eqb mode 254)'),
+    (WRONG, '26 not', 'Words', '26 when bit 15 v ∷ []', '[]'),
+    (WRONG, 'absolute one word', 'Words', 'paired (AbsolutePoint x) = true', 'paired (AbsolutePoint x) = false'),
+    # ---- Machine
+    (WRONG, 'no wrap', 'Machine', 'next c = (c + 2) % 2 ^ 16', 'next c = c + 2'),
+    (WRONG, 'counter by 1', 'Machine', 'next c = (c + 2) % 2 ^ 16', 'next c = (c + 1) % 2 ^ 16'),
+    (WRONG, 'range low', 'Machine', 'leZ (negsuc 4095) (u .0)', 'leZ (negsuc 4096) (u .0)'),
+    (WRONG, 'range low2', 'Machine', 'leZ (negsuc 4095) (u .0)', 'leZ (negsuc 4094) (u .0)'),
+    (WRONG, 'range high', 'Machine', 'leZ (u .0) (pos 4095)', 'leZ (u .0) (pos 4096)'),
+    (WRONG, 'range high2', 'Machine', 'leZ (u .0) (pos 4095)', 'leZ (u .0) (pos 4094)'),
+    (WRONG, 'mode 0 in range', 'Machine', 'isMode k = eqb k none || setsMode k', 'isMode k = eqb k none || eqb k 0 || setsMode k'),
+    (WRONG, 'status 3', 'Machine', 'isStatus s = leb s 2', 'isStatus s = leb s 3'),
+    (WRONG, 'status 28', 'Machine', 'within 21 27 s', 'within 21 28 s'),
+    (WRONG, 'status 20', 'Machine', 'within 21 27 s', 'within 20 27 s'),
+    (WRONG, 'status 26', 'Machine', 'within 21 27 s', 'within 21 26 s'),
+    (WRONG, 'value 4', 'Machine', 'ltb (m .value) (shapeOf m .base)', 'leb (m .value) (shapeOf m .base)'),
+    (WRONG, 'increment 64', 'Machine', 'leb (m .increment) 63', 'leb (m .increment) 64'),
+    (WRONG, 'increment 62', 'Machine', 'leb (m .increment) 63', 'leb (m .increment) 62'),
+    (WRONG, 'y not asked', 'Machine', '    && inRange (m .y)\n', ''),
+    (WRONG, 'fresh value 2', 'Machine', 'value = 3; write = true', 'value = 2; write = true'),
+    (WRONG, 'fresh write off', 'Machine', 'value = 3; write = true', 'value = 3; write = false'),
+    (WRONG, 'fresh latch on', 'Machine', 'latch = false; increment = 0; status = 0 }\n\n', 'latch = true; increment = 0; status = 0 }\n\n'),
+    (WRONG, 'fresh increment 1', 'Machine', 'latch = false; increment = 0; status = 0 }\n\n', 'latch = false; increment = 1; status = 0 }\n\n'),
+    (WRONG, 'fresh counter', 'Machine', 'fresh = record { counter = 0', 'fresh = record { counter = 2'),
+    (WRONG, 'fresh mode 1', 'Machine', 'mode = none; value = 3', 'mode = 1; value = 3'),
+    (WRONG, 'start keeps status', 'Machine', 'withStatus (withCounter m a) 0', 'withCounter m a'),
+    (WRONG, 'start keeps counter', 'Machine', 'withStatus (withCounter m a) 0', 'withStatus m 0'),
+    (WRONG, 'start clears latch', 'Machine', 'withStatus (withCounter m a) 0', 'withLatch (withStatus (withCounter m a) 0) false'),
+    (WRONG, 'pen 3', 'Machine', 'penOf m old = m .value', 'penOf m old = 3'),
+    # ---- Step
+    (WRONG, 'graph moves other', 'Step', 'itemWay g (GraphY y) v = way (Move (units (pos g))) (Set y)', 'itemWay g (GraphY y) v = way Stay (Set y)'),
+    (WRONG, 'graph X moves', 'Step', 'itemWay g (GraphX x) v = way (Set x) (Move (units (pos g)))', 'itemWay g (GraphX x) v = way (Set x) Stay'),
+    (WRONG, 'abs Y moves', 'Step', 'way (Set x) (Set (coordinate v))', 'way (Set x) (Move (coordinate v))'),
+    (WRONG, 'relative plots start', 'Step', 'itemPixels m (RelativePoint dx dy) v = pointAt m (moved (m .x) dx) (moved (m .y) dy)', 'itemPixels m (RelativePoint dx dy) v = pointAt m (m .x) (m .y)'),
+    (WRONG, 'relative draws', 'Step', 'itemPixels m (RelativePoint dx dy) v = pointAt m (moved (m .x) dx) (moved (m .y) dy)', 'itemPixels m (RelativePoint dx dy) v = vectorBy m dx dy'),
+    (WRONG, 'absolute plots start', 'Step', 'itemPixels m (AbsolutePoint x) v = pointAt m x (coordinate v)', 'itemPixels m (AbsolutePoint x) v = pointAt m (m .x) (m .y)'),
+    (WRONG, 'long Y by X', 'Step', 'itemPixels m (LongVector dx) v = vectorBy m dx (long v)', 'itemPixels m (LongVector dx) v = vectorBy m dx dx'),
+    (WRONG, 'unlit stored', 'Step', 'pick (lit && m .write)', 'pick (m .write)'),
+    (WRONG, 'stop 1 2', 'Step', '(pick (m .latch) 2 1)', '(pick (m .latch) 1 2)'),
+    (WRONG, 'latch always', 'Step', '(withLatch m (pick (b .loads) (b .latch) (m .latch)))', '(withLatch m (b .latch))'),
+    (WRONG, 'value always', 'Step', 'withMode m (b .mode) (pick (b .sets) (b .value) (m .value))', 'withMode m (b .mode) (b .value)'),
+    (WRONG, 'increment always', 'Step', 'withIncrement m (pick (b .sets) (b .increment) (m .increment))', 'withIncrement m (b .increment)'),
+    (WRONG, 'write any channel', 'Step', 'withWrite m (pick (eqb (b .channel) 0) (b .write) (m .write))', 'withWrite m (b .write)'),
+    (WRONG, 'jump adds', 'Step', 'pick (jumps o) v (next (m .counter))', 'pick (jumps o) (next (next (m .counter))) (next (m .counter))'),
+    (WRONG, '27 x only', 'Step', '27 when (leaves (m .x) (w .x) || leaves (m .y) (w .y)) ∷ []', '27 when leaves (m .x) (w .x) ∷ []'),
+    (WRONG, '27 y only', 'Step', '27 when (leaves (m .x) (w .x) || leaves (m .y) (w .y)) ∷ []', '27 when leaves (m .y) (w .y) ∷ []'),
+    (WRONG, 'no 24', 'Step', '    ∷ firstRefusals (m .mode) (wordIn got)\n', ''),
+    (WRONG, 'second fetch not asked', 'Step', '    ∷ onlyIf (hasSecond i) (fetchRefusals more)\n', ''),
+    (WRONG, 'second fetch always', 'Step', 'onlyIf (hasSecond i) (fetchRefusals more)', 'fetchRefusals more'),
+    (SAME, '26 before second fetch', 'Step', '    ∷ onlyIf (hasSecond i) (fetchRefusals more)\n    ∷ onlyIf (isPaired i) (secondRefusals (wordIn more))', '    ∷ onlyIf (isPaired i) (secondRefusals (wordIn more))\n    ∷ onlyIf (hasSecond i) (fetchRefusals more)'),
+    (WRONG, '27 before 26', 'Step', '    ∷ onlyIf (isPaired i) (secondRefusals (wordIn more))\n    ∷ wayRefusals m (wayOf (m .increment) i (wordIn more))', '    ∷ wayRefusals m (wayOf (m .increment) i (wordIn more))\n    ∷ onlyIf (isPaired i) (secondRefusals (wordIn more))'),
+    (SAME, '24 after second fetch', 'Step', '    ∷ firstRefusals (m .mode) (wordIn got)\n    ∷ onlyIf (hasSecond i) (fetchRefusals more)', '    ∷ onlyIf (hasSecond i) (fetchRefusals more)\n    ∷ firstRefusals (m .mode) (wordIn got)'),
+    (WRONG, 'words of refused', 'Step', 'refuses m why = record { machine = withStatus m why; steps = 0; words = 0', 'refuses m why = record { machine = withStatus m why; steps = 0; words = 1'),
+    (WRONG, 'words always 1', 'Step', 'words = wordsOf i; pixels', 'words = 1; pixels'),
+    # ---- Run
+    (WRONG, 'stores 1', 'Run', 'stores = length (t .pixels)', 'stores = t .steps'),
+    (WRONG, 'words by steps', 'Run', 'words = t .words; stores', 'words = t .steps; stores'),
+    (WRONG, 'run ignores status', 'Run', 'pick (eqb (s .machine .status) 0) rest s', 'rest'),
+    (WRONG, 'counts not summed', 'Run', 'counts = summed (s .counts) (counted t)', 'counts = counted t'),
+    # ---- Calls
+    (WRONG, 'budget 999999', 'Calls', 'ltb 1000000 b', 'ltb 999999 b'),
+    (WRONG, 'budget more', 'Calls', 'ltb 1000000 b', 'ltb 1000001 b'),
+    (WRONG, '28 never', 'Calls', '28 when not (eqb (m .status) 0) ∷ []', '[]'),
+    (WRONG, '11 not for run', 'Calls', 'joined (imageDoors im ∷ fileDoors', 'joined (fileDoors'),
+    (WRONG, '11 after file', 'Calls', 'imageDoors im ∷ fileDoors (l .file) ∷', 'fileDoors (l .file) ∷ imageDoors im ∷'),
+    (WRONG, '17 before 16', 'Calls', 'machineDoors m ∷ budgetDoors b', 'budgetDoors b ∷ machineDoors m'),
+    (WRONG, 'start refused sets', 'Calls', 'pick (eqb n 0) (startedAt m a) m', 'startedAt m a'),
+    (WRONG, 'clear refused clears', 'Calls', 'left n (pick (eqb n 0) blank im)', 'left n blank'),
+    (WRONG, 'clear nothing', 'Calls', 'left n (pick (eqb n 0) blank im)', 'left n im'),
+    (WRONG, 'read 31 first', 'Calls', 'imageDoors im ++ fieldDoors s p', 'fieldDoors s p ++ imageDoors im'),
+    (WRONG, 'read value 1', 'Calls', '(natAbs (p .y .0))) 0 }', '(natAbs (p .y .0))) 1 }'),
+    (WRONG, 'turned counts', 'Calls', 'turnedAway m im n = left (record { answer = n; counts = nothing; machine = m }) im', 'turnedAway m im n = left (record { answer = n; counts = nothing; machine = withStatus m n }) im'),
+    # ---- Plot
+    (WRONG, 'high byte first', 'Plot', '(low + 256 * high)', '(high + 256 * low)'),
+    (WRONG, '19 odd not asked', 'Plot', '(not (eqb (length bytes % 2) 0) || ltb 65536 (length bytes))', 'ltb 65536 (length bytes)'),
+    (WRONG, '19 long not asked', 'Plot', '(not (eqb (length bytes % 2) 0) || ltb 65536 (length bytes))', 'not (eqb (length bytes % 2) 0)'),
+    (WRONG, '19 at 65536', 'Plot', 'ltb 65536 (length bytes)', 'ltb 65535 (length bytes)'),
+    (WRONG, '19 after doors', 'Plot', 'inputDoors bytes ++ runDoors (plain (wordsIn bytes)) fresh blank plotBudget', 'runDoors (plain (wordsIn bytes)) fresh blank plotBudget ++ inputDoors bytes'),
+    (WRONG, 'budget 100', 'Plot', 'plotBudget = 1000', 'plotBudget = 100'),
+    (WRONG, 'line order', 'Plot', 'pos (r .counts .words) ∷ pos (r .counts .stores)', 'pos (r .counts .stores) ∷ pos (r .counts .words)'),
+    (WRONG, 'line x y', 'Plot', 'r .machine .x .0 ∷ r .machine .y .0 ∷ []', 'r .machine .y .0 ∷ r .machine .x .0 ∷ []'),
+    (WRONG, 'refused line', 'Plot', 'refusedLine n = pos n ∷ pos 0', 'refusedLine n = pos n ∷ pos 1'),
+    # ---- Vector
+    (WRONG, 'by one always up', 'Vector', 'byOne start (negsuc _) i = start -ℤ pos i', 'byOne start (negsuc _) i = start +ℤ pos i'),
+    (WRONG, 'shorter', 'Vector', 'longer a b = max', 'longer a b = min'),
+    (WRONG, 'n = 0 none', 'Vector', 'pick (eqb (longer a b) 0) (a ∷ [])', 'pick (eqb (longer a b) 0) []'),
+    (WRONG, 'half down', 'Vector', '*ℤ difference +ℤ pos n) (2 * n)', '*ℤ difference +ℤ pos n -ℤ pos 1) (2 * n)'),
+]
+
+# What some of them name besides.
+IMPORTS = {
+    "Vector": [("_*_, max}", "_*_, max, min}")],
+    "Calls": [("Machine.{startedAt, machineDoors}", "Machine.{startedAt, withStatus, machineDoors}")],
+}
+
+# The with-functions of Machine: each keeps every field but its own. A step begins with status 0 and sets the counter last, so those two
+# may be lost by some of them and nobody sees it.
+CONSTANTS = {
+    "counter": "0", "x": "units (pos 0)", "y": "units (pos 0)", "mode": "none", "value": "3",
+    "write": "true", "latch": "false", "increment": "0", "status": "0",
+}
+UNSEEN = {
+    ("withPosition", "status"), ("withWrite", "counter"), ("withWrite", "status"), ("withLatch", "status"),
+    ("withIncrement", "counter"), ("withIncrement", "status"),
+}
+
+
+def lost_fields():
+    rules = []
+    for line in (TOP / "crates/definition/specs/Machine.antt").read_text().split("\n"):
+        head = re.match(r"(with\w+) m .* = record \{.*\}", line)
+        for field, constant in CONSTANTS.items() if head else []:
+            lost = re.sub(rf"\b{field} = m \.{field}\b", f"{field} = {constant}", line)
+            if lost != line:
+                kind = SAME if (head[1], field) in UNSEEN else WRONG
+                rules.append((kind, f"{head[1]} loses {field}", "Machine", line, lost))
+    return rules
+
+
+def copy(where):
+    """The definition with its examples and no law, in a repository of its own."""
+    for crate in ["whole", "definition"]:
+        shutil.copytree(TOP / "crates" / crate, where / "crates" / crate, ignore=shutil.ignore_patterns("must-fail"))
+    (where / "crates.txt").write_text("whole:\ndefinition: whole\n")
+    proofs = where / "crates/definition/proofs"
+    for path in proofs.iterdir():
+        if path.stem not in EXAMPLES:
+            path.unlink()
+    (proofs / "Lib.antt").write_text("".join(f"pub mod {name}\n" for name in EXAMPLES))
+    subprocess.run(["git", "init", "-q", str(where)], check=True)
+
+
+def refusal(where, rule):
+    """Where the first error stands, or None where the rule is taken."""
+    _, name, file, old, new = rule
+    path = where / "crates/definition/specs" / f"{file}.antt"
+    right = path.read_text()
+    if right.count(old) != 1:
+        return f"{name}: its text stands in {file}.antt {right.count(old)} times"
+    wrong = right.replace(old, new)
+    for a, b in IMPORTS.get(file, []):
+        wrong = wrong.replace(a, b)
+    path.write_text(wrong)
+    ran = subprocess.run(["rt", "dev", "definition"], cwd=where, stdout=subprocess.PIPE, stderr=subprocess.STDOUT, text=True)
+    path.write_text(right)
+    if ran.returncode == 0:
+        return None
+    first = re.search(r"(\w+/\w+\.antt):\d+:\d+: error", ran.stdout)
+    return first[1] if first else "no error was printed"
+
+
+def tried(rules):
+    found = []
+    with tempfile.TemporaryDirectory() as scratch:
+        where = pathlib.Path(scratch)
+        copy(where)
+        for rule in rules:
+            at = refusal(where, rule)
+            if rule[0] == WRONG and at is None:
+                found.append(f"NOT REFUSED: {rule[1]}")
+            elif rule[0] == SAME and at is not None:
+                found.append(f"refused, though marked the same: {rule[1]} ({at})")
+            elif rule[0] == WRONG and not at.startswith("proofs/"):
+                found.append(f"refused for another reason: {rule[1]} ({at})")
+    return found
+
+
+def main():
+    rules = RULES + lost_fields()
+    workers = min(2, os.cpu_count() or 1)
+    with ThreadPoolExecutor(workers) as pool:
+        found = [line for lines in pool.map(tried, [rules[i::workers] for i in range(workers)]) for line in lines]
+    print("\n".join(found + [f"{len(rules)} rules tried, {len(found)} to look at"]))
+    sys.exit(1 if found else 0)
+
+
+if __name__ == "__main__":
+    main()
