@@ -1,19 +1,19 @@
 -- The conditions that the theorems ask for can be met: a file that is accepted, a run whose doors are all open, words that are ready to be plotted.
 use Prim.Native.Nat.{ℕ}
 use mathlib.Core.List.{List, [], _∷_}
-use mathlib.Core.Path.{_≡_, refl}
+use mathlib.Core.Path.{refl}
 use lib.IntN.{pos}
 use Rattle.whole.specs.Parts.{whole}
 use Rattle.definition.specs.Units.{units}
-use Rattle.definition.specs.Image.{blank, square}
+use Rattle.definition.specs.Image.{blank}
 use Rattle.definition.specs.Machine.{fresh, withPosition, withMode, withIncrement}
 use Rattle.definition.specs.Run.{State, begun}
 use Rattle.definition.specs.Calls.{plain}
 use Rattle.definition.proofs.Opened.{rules}
-use Rattle.definition.proofs.Worked.{holding, dot}
+use Rattle.definition.proofs.Worked.{holding}
 use Rattle.definition.proofs.Runs.{typed}
 use Rattle.demands.specs.Conditions.{Accepted, Open}
-use Rattle.demands.specs.Graphs.{Axis, AlongX, AlongY, modeOf, weeks, Ready}
+use Rattle.demands.specs.Graphs.{Axis, AlongX, AlongY, modeOf, Ready}
 use Rattle.demands.proofs.FileAnswers.{check-0}
 use Rattle.demands.proofs.CallAnswers.{door-0}
 
@@ -39,8 +39,3 @@ ready-y = record { running = refl; mode = refl; words = (refl, (refl, tt)); lit 
 pub ready-x : Ready AlongY (holding two) (graphing AlongY) two
 unfolding rules
 ready-x = record { running = refl; mode = refl; words = (refl, (refl, tt)); lit = (refl, (refl, tt)); low = omega whole; room = omega whole }
-
--- and the pixels of those words, by their formula
-pub two-weeks : weeks AlongX square (pos 10) 4 0 two ≡ dot 5 32 ∷ dot 7 34 ∷ []
-unfolding rules
-two-weeks = refl

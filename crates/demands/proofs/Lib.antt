@@ -1,3 +1,4 @@
+pub mod Applied
 pub mod Runs
 pub mod Drift
 pub mod FileAnswers

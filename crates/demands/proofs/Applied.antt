@@ -1,0 +1,55 @@
+-- The words of the statements applied to examples: what they should mean, computed.
+use mathlib.Core.Bool.{true, false}
+use mathlib.Core.List.{List, [], _∷_}
+use mathlib.Core.Path.{_≡_, refl}
+use lib.IntN.{pos, negsuc}
+use Rattle.whole.specs.Parts.{whole}
+use Rattle.definition.specs.Units.{units}
+use Rattle.definition.specs.Image.{square}
+use Rattle.definition.specs.Step.Change.{Stay, Set, Move}
+use Rattle.definition.specs.declared.Order.the-variants.{Increment}
+use Rattle.definition.specs.declared.Item.the-variants.{GraphY, ShortVector}
+use Rattle.definition.specs.declared.Instruction.the-variants.{Does, Draws}
+use Rattle.definition.proofs.Opened.{rules}
+use Rattle.definition.proofs.Worked.{dot}
+use Rattle.demands.specs.Conditions.{InRange}
+use Rattle.demands.specs.Exact.{exact}
+use Rattle.demands.specs.Graphs.{AlongX, AlongY, weeks}
+use Rattle.demands.specs.Ledger.{Entry, changes, settled}
+
+-- two graph words from unit 10 with increment 4: the first at 10 itself
+pub two-weeks : weeks AlongX square (pos 10) 4 0 (0o040100 ∷ 0o040104 ∷ []) ≡ dot 5 32 ∷ dot 7 34 ∷ []
+unfolding rules
+two-weeks = refl
+
+pub two-rows : weeks AlongY square (pos 10) 4 0 (0o040100 ∷ 0o040104 ∷ []) ≡ dot 32 5 ∷ dot 34 7 ∷ []
+unfolding rules
+two-rows = refl
+
+-- moves before the last outright setting are forgotten, those after it are summed; with no setting all of them are
+pub set-and-moved : (settled (units (pos 3)) (Move (units (pos 2)) ∷ Set (units (pos 10)) ∷ Move (units (negsuc 2)) ∷ Stay ∷ Move (units (pos 1)) ∷ []) ∷ settled (units (pos 3)) (Move (units (pos 2)) ∷ Stay ∷ Move (units (negsuc 0)) ∷ []) ∷ [])
+    ≡ units (pos 8) ∷ units (pos 4) ∷ []
+set-and-moved = refl
+
+-- a graph word moves X by the increment that is then in force
+abbrev entries : List Entry
+entries =
+    record { what = Draws true (GraphY (units (pos 9))); second = 0 }
+    ∷ record { what = Does (Increment (record { sets = true; increment = 7 })); second = 0 }
+    ∷ record { what = Draws true (GraphY (units (pos 9))); second = 0 }
+    ∷ record { what = Draws false (ShortVector (units (negsuc 1)) (units (pos 0))); second = 0 }
+    ∷ []
+
+pub increments : changes (λ w. w .x) 4 entries ≡ Move (units (pos 4)) ∷ Stay ∷ Move (units (pos 7)) ∷ Move (units (negsuc 1)) ∷ []
+increments = refl
+
+-- both ends of a coordinate's range
+pub lowest : InRange (units (negsuc 4095))
+lowest = record { low = omega whole; high = omega whole }
+
+pub highest : InRange (units (pos 4095))
+highest = record { low = omega whole; high = omega whole }
+
+-- half way from unit 0 to unit 7 in 2 steps: n times the exact point
+pub half-way : exact (pos 0) (pos 7) 2 1 ≡ pos 7
+half-way = refl
