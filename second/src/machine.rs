@@ -27,7 +27,7 @@ pub struct Machine {
     pub latch: u8,
     /// The graph increment, 0 to 63.
     pub increment: u8,
-    /// 0 running, 1 stopped, 2 stopped with interrupt, 21 to 27 refused.
+    /// 0 while it runs, 1 or 2 after a stop without or with interrupt, 21 to 27 after a refusal.
     pub status: u8,
 }
 

@@ -1,4 +1,4 @@
--- A run: steps, until the budget is used or the status is no longer 0.
+-- A run: one step after another, while the machine runs and there is budget left.
 use Prim.Native.Nat.{ℕ, zero, suc, _+_}
 use mathlib.Core.List.{List}
 use lib.ListN.{length}

@@ -1,4 +1,4 @@
--- A step: one instruction with its one or two words. What it is refused for, and what it does where it is not refused.
+-- A step: what an instruction is refused for, and what it does where it is not refused.
 use Prim.Native.Nat.{ℕ}
 use mathlib.Core.Bool.{Bool, false, not, _&&_, _||_}
 use mathlib.Core.List.{List, [], _∷_}

@@ -43,7 +43,7 @@ order w =
     (Increment (record { sets = bit 6 w; increment = bits 5 0 w }))))))
 
 -- ---- bit 15 clear: the item, by the mode
--- sign and magnitude; minus zero is zero
+-- a sign bit and a size; of size 0 the sign is lost
 unfoldable pub move : Bool → ℕ → Units
 move false n = units (pos n)
 move true n = units (negℤ (pos n))

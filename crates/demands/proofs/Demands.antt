@@ -45,7 +45,7 @@ use Rattle.demands.proofs.Vectors as vectors
 
 -- ==== Demand 1
 
--- ---- the words outside a file's segments make no difference
+-- ---- words that are in no segment decide nothing
 -- the check looks at the length and at the header, and at nothing else
 pub check-reads-the-header : (f g : List ℕ) → SameHeader f g → length f ≡ length g → checkCall f ≡ checkCall g
 check-reads-the-header = outside.same-check
@@ -254,7 +254,7 @@ runs-in-a-row = runs.run-twice
 -- ==== Demand 3
 
 -- ---- drift does not build up
--- after a run of any budget a coordinate is its last outright setting, or its starting value, plus every signed move and step completed since
+-- whatever the budget: a coordinate is where it was last set, or where it began, and the sum of what the instructions completed after that moved it by
 pub no-drift-x : (g : Given) (b : ℕ) (s : State) → run g b s .machine .x ≡ settled (s .machine .x) (changes (λ w. w .x) (s .machine .increment) (completed g b s))
 no-drift-x = drift.no-drift-x
 
@@ -277,7 +277,7 @@ pub vector-near : (x y x′ y′ : Units) (i : ℕ) (d : Pixel) → 0 < longer (
     (natAbs (pos (2 * n) *ℤ p .x .0 -ℤ exact (x .0) (x′ .0) n i) < 2 * n) × (natAbs (pos (2 * n) *ℤ p .y .0 -ℤ exact (y .0) (y′ .0) n i) < 2 * n)
 vector-near = vectors.vector-near
 
--- where n is 0 there is one pixel, and twice it differs from each end by at most 1
+-- where n is 0 there is one pixel, and twice it is within 1 of either end
 pub one-pixel : (a b : Pixel) → longer a b ≡ 0 → vector a b ≡ a ∷ []
 one-pixel = vectors.vector-point
 

@@ -1,4 +1,4 @@
--- No drift: a coordinate is its last outright setting, or its start, plus every signed move and step completed since.
+-- No drift: where a coordinate was last set, or began, and the sum of what moved it after that.
 use Prim.Native.Nat.{ℕ, zero, suc, _+_}
 use mathlib.Core.Bool.{Bool, true, false}
 use mathlib.Core.List.{List, [], _∷_}

@@ -5,7 +5,7 @@ use second::{fresh, run, start, Machine, Place, Position, Unit};
 
 use crate::support::*;
 
-/// Checks one coordinate of one pixel against the exact line between the true ends.
+/// Holds one coordinate of one pixel against its exact point, in whole numbers.
 fn is_within_a_pixel(pixel: i64, start: i64, end: i64, i: i64, n: i64) -> bool {
     let exact = start * (n - i) + end * i;
     (2 * n * pixel - exact).abs() < 2 * n
