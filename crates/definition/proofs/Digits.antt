@@ -1,12 +1,16 @@
--- Laws of the digits of a byte, in any base: a digit put in its place leaves the others, and digits put in two places may be put in either order.
+-- Laws of the digits of a byte, in any base: a digit put in its place stands there and leaves the others, and digits put in two places may be put in either order.
 use Prim.Native.Nat.{ℕ, suc, _+_, _-_, _*_, _/_, _%_, _^_, _<_}
 use mathlib.Core.Path.{_≡_, sym, ap, _∙_}
 use native.Mathlib.Nat.{mod-lt, div-add-mod', mul-add-div, mul-add-mod-self-right, div-div-eq-div-mul, pow-suc, one-le-pow}
 use native.Mathlib.Omega.{arith}
 use native.Mathlib.Decide.{decLt}
-use lib.Arith.{digits-div}
+use lib.Arith.{digits-div, digits-mod}
 use lib.Pow.{pow-add}
 use Rattle.definition.specs.Image.{digit, putDigit}
+
+pub digit-same : (b k x v : ℕ) → v < b → digit b k (putDigit b k x v) ≡ v
+unfolding digit putDigit
+digit-same b k x v h = rw (digits-div (x / (b ^ k * b) * b + v) (mod-lt x (one-le-pow k b (omega arith)))) (digits-mod (x / (b ^ k * b)) h)
 
 -- what stands above weight w * b * u does not touch the digit at weight w
 low : (q w b u lo : ℕ) → 0 < w → (q * (w * b * u) + lo) / w % b ≡ lo / w % b
