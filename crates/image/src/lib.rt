@@ -1,0 +1,79 @@
+// The image memory, lent as bytes: the store of a pixel, of a pixel that may lie outside the field, the read and the clear.
+use definition::Pixel;
+use units::Index;
+ghost use mathlib.Core.Path.{_≡_};
+ghost use mathlib.Core.List.{[], _∷_};
+ghost use Prim.Native.Nat.{_<_};
+ghost use lib.ListN.{length, replicate};
+ghost use Rattle.definition.specs.Image.{square, imageBytes, digit, putDigit, digitAt, store, left};
+ghost use Rattle.image.specs.Drawn.{drawn};
+
+const WIDTH: usize = 512;
+
+const HEIGHT: usize = 512;
+
+// Digit k of a byte in base four.
+fn digit(byte: u8, k: usize) -> u8
+    requires { ⌜ k < 4 ⌝ }
+    ensures { λ r. ⌜ r ≡ digit 4 k byte ⌝ }
+{
+    match k {
+        0 => byte % 4,
+        1 => byte / 4 % 4,
+        2 => byte / 16 % 4,
+        _ => byte / 64 % 4,
+    }
+}
+
+// The byte with v in place of its digit k.
+fn put_digit(byte: u8, k: usize, v: u8) -> u8
+    requires { ⌜ (k < 4) × (v < 4) ⌝ }
+    ensures { λ r. ⌜ r ≡ putDigit 4 k byte v ⌝ }
+{
+    match k {
+        0 => byte / 4 * 4 + v,
+        1 => byte / 16 * 16 + v * 4 + byte % 4,
+        2 => byte / 64 * 64 + v * 16 + byte % 16,
+        _ => v * 64 + byte % 64,
+    }
+}
+
+pub fn read(image: &[u8], x: usize, y: usize) -> u8
+    requires { ⌜ (length (now image) ≡ imageBytes) × (x < 512) × (y < 512) ⌝ }
+    ensures { λ r. ⌜ r ≡ digitAt square (now (image .entry)) x y ⌝ }
+{
+    digit(image[128 * y + x / 4], x % 4)
+}
+
+pub fn store(image: &mut [u8], x: usize, y: usize, v: u8)
+    requires { ⌜ (length (now image) ≡ imageBytes) × (x < 512) × (y < 512) × (v < 4) ⌝ }
+    ensures { λ _. ⌜ now (image .exit) ≡ store square (λ old. v) (now (image .entry)) x y ⌝ }
+{
+    let i = 128 * y + x / 4;
+    image[i] = put_digit(image[i], x % 4, v);
+}
+
+// One pixel, stored if it is in the field: answers how many were stored, 0 or 1.
+pub fn plot(image: &mut [u8], p: Pixel, v: u8) -> u32
+    requires { ⌜ (length (now image) ≡ imageBytes) × (v < 4) ⌝ }
+    ensures { λ r. ⌜ left r (now (image .exit)) ≡ drawn square (λ old. v) (now (image .entry)) (p ∷ []) ⌝ }
+{
+    let Index::At(x) = units::index_in(WIDTH, p.x) else {
+        return 0;
+    };
+    let Index::At(y) = units::index_in(HEIGHT, p.y) else {
+        return 0;
+    };
+    store(image, x, y, v);
+    1
+}
+
+pub fn clear(image: &mut [u8])
+    ensures { λ _. ⌜ now (image .exit) ≡ replicate (length (now (image .entry))) 0 ⌝ }
+{
+    let mut i = 0;
+    while i < image.len() {
+        image[i] = 0;
+        i += 1;
+    }
+}
