@@ -610,10 +610,10 @@ fn short_move(upward: bool, along_x: bool, size: u16) -> u16 {
 }
 
 /// The generator of chance (splitmix64); every seed is a good one.
-struct Random(u64);
+pub(crate) struct Random(pub(crate) u64);
 
 impl Random {
-    fn next(&mut self) -> u64 {
+    pub(crate) fn next(&mut self) -> u64 {
         self.0 = self.0.wrapping_add(0x9E37_79B9_7F4A_7C15);
         let mut mixed = self.0;
         mixed = (mixed ^ mixed >> 30).wrapping_mul(0xBF58_476D_1CE4_E5B9);
@@ -621,17 +621,17 @@ impl Random {
         mixed ^ mixed >> 31
     }
 
-    fn word(&mut self) -> u16 {
+    pub(crate) fn word(&mut self) -> u16 {
         self.next() as u16
     }
 
     /// A number below a limit.
-    fn below(&mut self, limit: u16) -> u16 {
+    pub(crate) fn below(&mut self, limit: u16) -> u16 {
         (self.next() % u64::from(limit)) as u16
     }
 
     /// A number from `low` to `high`, both included.
-    fn between(&mut self, low: u16, high: u16) -> u16 {
+    pub(crate) fn between(&mut self, low: u16, high: u16) -> u16 {
         low + self.below(high - low + 1)
     }
 
@@ -641,15 +641,15 @@ impl Random {
         self.below(limit)
     }
 
-    fn chance(&mut self, percent: u16) -> bool {
+    pub(crate) fn chance(&mut self, percent: u16) -> bool {
         self.below(100) < percent
     }
 
-    fn pick(&mut self, choices: &[u16]) -> u16 {
+    pub(crate) fn pick(&mut self, choices: &[u16]) -> u16 {
         choices[self.index(choices.len())]
     }
 
-    fn index(&mut self, length: usize) -> usize {
+    pub(crate) fn index(&mut self, length: usize) -> usize {
         (self.next() % length.max(1) as u64) as usize
     }
 

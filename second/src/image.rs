@@ -53,7 +53,7 @@ pub fn read_pixel(image: &[u8], x: Pixel, y: Pixel) -> (Answer, u8) {
 }
 
 /// The byte of a pixel and the shift of its digit there, if it is in the field.
-fn locate(place: Place) -> Option<(usize, u32)> {
+pub(crate) fn locate(place: Place) -> Option<(usize, u32)> {
     let (x, y) = (place.x.0, place.y.0);
     if !(0..SIDE).contains(&x) || !(0..SIDE).contains(&y) {
         return None;

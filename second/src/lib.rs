@@ -8,6 +8,7 @@ pub mod cases;
 mod file;
 mod image;
 mod machine;
+pub mod parts;
 pub mod plot;
 mod run;
 mod unit;

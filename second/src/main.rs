@@ -1,17 +1,29 @@
-//! The command: `second plot` reads a display file and prints its line, and
-//! `second cases SEED COUNT` prints random files with theirs.
+//! The command: `second plot` reads a display file and prints its line,
+//! `second cases SEED COUNT` prints random files with theirs, and
+//! `second parts SEED DIR [COUNT]` writes cases for the parts of an implementation.
 
 use std::env;
+use std::fs;
 use std::io::{self, BufWriter, Read, Write};
+use std::path::{Path, PathBuf};
 use std::process::ExitCode;
 
 use second::cases::cases;
+use second::parts::{parts, USUAL_COUNT};
 use second::plot::{plot, INPUT_LIMIT};
 
 /// What the arguments ask for.
 enum Task {
     Plot,
-    Cases { seed: u64, count: usize },
+    Cases {
+        seed: u64,
+        count: usize,
+    },
+    Parts {
+        seed: u64,
+        folder: PathBuf,
+        count: usize,
+    },
 }
 
 fn main() -> ExitCode {
@@ -20,7 +32,8 @@ fn main() -> ExitCode {
         None => {
             eprintln!(
                 "Call it as `second plot`, with a display file on standard input, \
-                 or as `second cases SEED COUNT`, with two whole numbers."
+                 as `second cases SEED COUNT`, with two whole numbers, \
+                 or as `second parts SEED DIR [COUNT]`, with a folder to write to."
             );
             return ExitCode::from(2);
         }
@@ -28,6 +41,11 @@ fn main() -> ExitCode {
     let done = match task {
         Task::Plot => plot_standard_input(),
         Task::Cases { seed, count } => print_cases(seed, count),
+        Task::Parts {
+            seed,
+            folder,
+            count,
+        } => write_parts(seed, &folder, count),
     };
     match done {
         Ok(()) => ExitCode::SUCCESS,
@@ -45,6 +63,16 @@ fn task() -> Option<Task> {
         ["plot"] => Some(Task::Plot),
         ["cases", seed, count] => Some(Task::Cases {
             seed: seed.parse().ok()?,
+            count: count.parse().ok()?,
+        }),
+        ["parts", seed, folder] => Some(Task::Parts {
+            seed: seed.parse().ok()?,
+            folder: PathBuf::from(folder),
+            count: USUAL_COUNT,
+        }),
+        ["parts", seed, folder, count] => Some(Task::Parts {
+            seed: seed.parse().ok()?,
+            folder: PathBuf::from(folder),
             count: count.parse().ok()?,
         }),
         _ => None,
@@ -65,4 +93,12 @@ fn print_cases(seed: u64, count: usize) -> io::Result<()> {
         writeln!(output, "{}", case)?;
     }
     output.flush()
+}
+
+fn write_parts(seed: u64, folder: &Path, count: usize) -> io::Result<()> {
+    let parts = parts(seed, count);
+    fs::write(folder.join("cases"), &parts.cases)?;
+    fs::write(folder.join("expected"), &parts.expected)?;
+    fs::write(folder.join("index"), &parts.index)?;
+    write!(io::stdout(), "{}", parts)
 }

@@ -153,15 +153,15 @@ fn short_moves(word: u16) -> (Unit, Unit) {
     )
 }
 
-fn long_move(word: u16) -> Unit {
+pub(crate) fn long_move(word: u16) -> Unit {
     signed(bit(word, 13), field(word, 9, 0))
 }
 
-fn coordinate(word: u16) -> Unit {
+pub(crate) fn coordinate(word: u16) -> Unit {
     Unit(i64::from(field(word, 9, 0)))
 }
 
-fn signed(negative: bool, size: u16) -> Unit {
+pub(crate) fn signed(negative: bool, size: u16) -> Unit {
     let size = i64::from(size);
     Unit(if negative { -size } else { size })
 }
