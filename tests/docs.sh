@@ -1,5 +1,6 @@
 #!/bin/sh
-# docs/DEFINITION.md against the tree: every definition, example, theorem and edit that it names is there, and every theorem is named in it.
+# docs/DEFINITION.md against the tree: every definition, example, theorem, function and edit that it names is there; every theorem is named in it, and
+# every function of the parts that another crate can call.
 set -eu
 cd "$(dirname "$0")/.."
 doc=docs/DEFINITION.md
@@ -19,11 +20,24 @@ while IFS=. read -r file name; do
         { echo "$doc names $file.$name, which is not there"; failed=1; }
 done <"$work/definitions"
 
-# `some_edit`: a must-fail edit of the definition
-grep -E '^[a-z0-9]+(_[a-z0-9]+)+$' "$work/named" >"$work/edits" || :
-while read -r edit; do
-    [ -f "crates/definition/must-fail/$edit.edit" ] || { echo "$doc names the edit $edit, which is not there"; failed=1; }
+# `some_edit`, `crate/some_edit`: a must-fail edit of the definition, or of that crate
+sed -nE -e 's#^[a-z0-9]+(_[a-z0-9]+)+$#definition/&#p' -e '/^[a-z]+\/[a-z0-9]+(_[a-z0-9]+)+$/p' "$work/named" >"$work/edits"
+while IFS=/ read -r crate edit; do
+    [ -f "crates/$crate/must-fail/$edit.edit" ] || { echo "$doc names the edit $edit of $crate, which is not there"; failed=1; }
 done <"$work/edits"
+
+# `crate::function`: in that crate's source; and each that is public is named
+sed -nE 's/^([a-z]+)::([a-z_0-9]+)$/\1 \2/p' "$work/named" >"$work/functions"
+while read -r crate function; do
+    grep -Eq "^(pub )?fn $function\(" "crates/$crate/src/lib.rt" 2>/dev/null ||
+        { echo "$doc names the function $crate::$function, which is not there"; failed=1; }
+done <"$work/functions"
+for crate in units image file words vector; do
+    sed -nE "s/^pub fn ([a-z_0-9]+)\(.*/$crate::\1/p" "crates/$crate/src/lib.rt"
+done >"$work/public"
+while read -r function; do
+    grep -qx -e "$function" "$work/named" || { echo "$doc does not name the function $function"; failed=1; }
+done <"$work/public"
 
 # theorems: each is named
 sed -n 's/^ *pub \([a-z0-9-]*\) :.*/\1/p' "$theorems" >"$work/theorems"
@@ -36,5 +50,5 @@ sed -n 's/.*](\([^)#]*\)).*/\1/p' README.md | while read -r path; do
     [ -e "$path" ] || { echo "README.md links to $path, which is not there"; exit 1; }
 done || failed=1
 
-[ "$failed" -eq 0 ] && echo "docs: $(wc -l <"$work/definitions") definitions, $(wc -l <"$work/edits") edits and $(wc -l <"$work/theorems") theorems are where $doc has them"
+[ "$failed" -eq 0 ] && echo "docs: $(wc -l <"$work/definitions") definitions, $(wc -l <"$work/edits") edits, $(wc -l <"$work/functions") functions and $(wc -l <"$work/theorems") theorems are where $doc has them"
 [ "$failed" -eq 0 ]
