@@ -8,4 +8,4 @@ pub mod Exactly
 pub mod Plain
 pub mod VectorLaws
 pub mod Digits
-pub mod ImageLaws
+pub mod StoreLaws

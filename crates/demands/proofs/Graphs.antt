@@ -25,7 +25,7 @@ use Rattle.definition.specs.declared.Fetched.the-variants.{Word}
 use Rattle.definition.specs.declared.Item.{Item}
 use Rattle.definition.specs.declared.Item.the-variants.{GraphX, GraphY}
 use Rattle.definition.specs.declared.Instruction.the-variants.{Draws}
-use Rattle.definition.proofs.ImageLaws.{stores-append, inside-append}
+use Rattle.definition.proofs.StoreLaws.{stores-append, inside-append}
 use Rattle.demands.specs.Conditions.{InRange}
 use Rattle.demands.specs.Graphs.{Axis, AlongX, AlongY, modeOf, stepped, valued, pixelOn, weeks, shown, went, Ready, plotted}
 use Rattle.demands.proofs.Runs.{on, step-done, run-turn}

@@ -24,7 +24,7 @@ use Rattle.definition.proofs.Exactly.{Fails, fails}
 use Rattle.definition.proofs.Plain.{_so_, _and_, _or_, is-less, is-most, is-mostZ, is-equal, not-false, both-true, either-true, either-false}
 use Rattle.demands.specs.Conditions.{InRange, Fits}
 use Rattle.demands.proofs.Runs.{pick-keeps, step-keeps, run-keeps}
-use Rattle.definition.proofs.ImageLaws.{stores-length}
+use Rattle.definition.proofs.StoreLaws.{stores-length}
 
 -- ---- 16's test and the plain ranges
 pub in-range : {u : Units} → (inRange u ≡ true) ↔ InRange u

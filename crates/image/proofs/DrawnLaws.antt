@@ -8,7 +8,7 @@ use lib.ListN.{length, length-append}
 use Rattle.definition.specs.Choice.{pick}
 use Rattle.definition.specs.Image.{Shape, Pen, inField, inside, store, stores, Left, left}
 use Rattle.definition.specs.declared.Pixel.{Pixel}
-use Rattle.definition.proofs.ImageLaws.{stores-append, inside-append}
+use Rattle.definition.proofs.StoreLaws.{stores-append, inside-append}
 use Rattle.units.specs.Answers.{indexIn}
 use Rattle.units.specs.declared.Index.{Index}
 use Rattle.units.specs.declared.Index.the-variants.{At, Outside}

@@ -4,9 +4,9 @@ use units::Index;
 ghost use mathlib.Core.Path.{_≡_};
 ghost use mathlib.Core.List.{[], _∷_};
 ghost use Prim.Native.Nat.{_<_};
-ghost use lib.ListN.{length, replicate};
+ghost use lib.ListN.{length};
 ghost use Rattle.definition.specs.Image.{square, imageBytes, digit, putDigit, digitAt, store, left};
-ghost use Rattle.image.specs.Drawn.{drawn};
+ghost use Rattle.image.specs.Drawn.{drawn, cleared};
 
 const WIDTH: usize = 512;
 
@@ -69,7 +69,7 @@ pub fn plot(image: &mut [u8], p: Pixel, v: u8) -> u32
 }
 
 pub fn clear(image: &mut [u8])
-    ensures { λ _. ⌜ now (image .exit) ≡ replicate (length (now (image .entry))) 0 ⌝ }
+    ensures { λ _. ⌜ now (image .exit) ≡ cleared (now (image .entry)) ⌝ }
 {
     let mut i = 0;
     while i < image.len() {

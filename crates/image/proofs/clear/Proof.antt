@@ -5,6 +5,7 @@ use native.Mathlib.Omega.{arith}
 use borrow.Author.Fill.{fill-none, fill-more}
 use lib.ListN.{length, replicate, drop, set, length-set}
 use lib.Seq.{drop-length}
+use Rattle.image.specs.Drawn.{cleared}
 use Rattle.image.proofs.clear.Statement.{statement}
 use Rattle.image.proofs.clear.Tie as tie
 
@@ -35,6 +36,7 @@ same-length : tie.Need-same-length Inv-loop μ-loop
 same-length c = omega arith
 
 returns : tie.Need-returns Inv-loop μ-loop
+unfolding cleared
 returns c =
     let l = c .before in
     let d = l .before .args .image .now in
