@@ -1,13 +1,17 @@
--- The laws of stores for this image: what `store` stored `read` reads, every other pixel and byte reads as before, and stores at different pixels commute.
+-- The laws of stores for this image: the store as the code makes it; what `store` stored `read` reads, every other pixel and byte reads as before, and stores at different pixels commute.
 -- And cleared, an image of the right length is the blank one.
-use Prim.Native.Nat.{ℕ, _/_, _<_}
+use Prim.Native.Nat.{ℕ, _+_, _*_, _/_, _%_, _<_}
 use mathlib.Core.List.{List}
 use mathlib.Core.Path.{_≡_, ap}
 use native.Mathlib.Omega.{arith}
-use lib.ListN.{length, getD, replicate}
-use Rattle.definition.specs.Image.{square, imageBytes, blank, byteOf, digitAt, store}
+use lib.ListN.{length, getD, set, replicate}
+use Rattle.definition.specs.Image.{square, imageBytes, blank, byteOf, putDigit, digitAt, store}
 use Rattle.definition.proofs.StoreLaws as laws
 use Rattle.image.specs.Drawn.{cleared}
+
+pub stored : (im : List ℕ) (x y v : ℕ) {byte : ℕ} → byte ≡ putDigit 4 (x % 4) (getD im (128 * y + x / 4) 0) v → set im (128 * y + x / 4) byte ≡ store square (λ old. v) im x y
+unfolding store byteOf
+stored im x y v e = rw e
 
 in-a-row : (x : ℕ) → x < 512 → x / 4 < 128
 in-a-row x h = omega arith

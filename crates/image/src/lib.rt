@@ -12,17 +12,13 @@ const WIDTH: usize = 512;
 
 const HEIGHT: usize = 512;
 
-// Digit k of a byte in base four.
+// Digit k of a byte in base four: two bits, from bit 2k up.
 fn digit(byte: u8, k: usize) -> u8
     requires { ⌜ k < 4 ⌝ }
     ensures { λ r. ⌜ r ≡ digit 4 k byte ⌝ }
 {
-    match k {
-        0 => byte % 4,
-        1 => byte / 4 % 4,
-        2 => byte / 16 % 4,
-        _ => byte / 64 % 4,
-    }
+    let bit = 2 * k;
+    (byte >> bit) % 4
 }
 
 // The byte with v in place of its digit k.
@@ -30,12 +26,9 @@ fn put_digit(byte: u8, k: usize, v: u8) -> u8
     requires { ⌜ (k < 4) × (v < 4) ⌝ }
     ensures { λ r. ⌜ r ≡ putDigit 4 k byte v ⌝ }
 {
-    match k {
-        0 => byte / 4 * 4 + v,
-        1 => byte / 16 * 16 + v * 4 + byte % 4,
-        2 => byte / 64 * 64 + v * 16 + byte % 16,
-        _ => v * 64 + byte % 64,
-    }
+    let bit = 2 * k;
+    let old = (byte >> bit) % 4;
+    byte - (old << bit) + (v << bit)
 }
 
 pub fn read(image: &[u8], x: usize, y: usize) -> u8

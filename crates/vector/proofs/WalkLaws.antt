@@ -4,6 +4,7 @@ use mathlib.Core.Path.{_≡_}
 use mathlib.Core.List.{List, [], _∷_}
 use native.Mathlib.Numerals.{add-one}
 use borrow.Author.Tests.{eq-eqb, ne-eqb}
+use lib.Dec.{leb}
 use lib.IntN.{natAbs}
 use Rattle.definition.specs.Image.{Shape, Pen, left}
 use Rattle.definition.specs.Vector.{apartX, apartY, longer, nth, numbered, vector}
@@ -20,6 +21,9 @@ module _ (a b : Pixel) where
   pub longer-is : {x y n : ℕ} → x ≡ natAbs (apartX a b) → y ≡ natAbs (apartY a b) → n ≡ max x y → n ≡ longer a b
   unfolding longer
   longer-is ex ey en = rw (en, ex, ey)
+
+  pub across-is : {x y : ℕ} → x ≡ natAbs (apartX a b) → y ≡ natAbs (apartY a b) → leb y x ≡ leb (natAbs (apartY a b)) (natAbs (apartX a b))
+  across-is ex ey = rw (ex, ey)
 
   pub vector-one : longer a b ≡ 0 → (a ∷ []) ≡ vector a b
   unfolding vector

@@ -1,4 +1,4 @@
-use Rattle.definition.specs.Image.{byteOf, store}
+use Rattle.image.proofs.SquareLaws.{stored}
 use borrow.Author.Needs.{needs}
 use Rattle.image.proofs.store.Statement.{statement}
 use Rattle.image.proofs.store.Tie as tie
@@ -22,8 +22,7 @@ same-length : tie.Need-same-length
 same-length c = search needs
 
 returns : tie.Need-returns
-unfolding store byteOf
-returns c = rw (c .put-digit .ensures)
+returns c = stored _ _ _ _ (c .put-digit .ensures)
 
 pub store-spec : {M : Type 1} → statement M
 store-spec =

@@ -6,7 +6,7 @@ use Rattle.definition.specs.Image.{square, left, inside, stores}
 use Rattle.definition.specs.Vector.{longer, nth, numbered}
 use Rattle.image.specs.Drawn.{drawn}
 use Rattle.image.proofs.DrawnLaws.{one-at-most}
-use Rattle.vector.proofs.WalkLaws.{walk-turn, longer-is, vector-one, vector-walked}
+use Rattle.vector.proofs.WalkLaws.{walk-turn, longer-is, across-is, vector-one, vector-walked}
 use borrow.Author.Needs.{needs}
 use Rattle.vector.proofs.draw.Statement.{statement}
 use Rattle.vector.proofs.draw.Tie as tie
@@ -57,8 +57,9 @@ nth-requires : tie.Need-nth-requires Inv-loop μ-loop
 nth-requires c κs =
     let l = c .before .before in
     let n = l .before .before in
+    let a = n .before .before .before .before .args in
     let h = n .before .before .before .before .pre in
-    (h .1, h .2, rw (n .before .before .apart .ensures .0, n .before .apart2 .ensures .0), is-longer n, omega arith, below n, omega (arith, c .before .loop-test .taken))
+    (h .1, h .2, across-is (a .a) (a .b) (n .before .before .apart .ensures .0) (n .before .apart2 .ensures .0), is-longer n, omega arith, below n, omega (arith, c .before .loop-test .taken))
 
 plot-requires-2 : tie.Need-plot-requires-2 Inv-loop μ-loop
 plot-requires-2 c κs =
