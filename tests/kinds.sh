@@ -50,4 +50,4 @@ refused 'same_units(value)' i32 Units Units
 # every function that is given units, and answers pixels
 crossing=$(cat crates/*/src/*.rt | sed -n 's/^\(pub \)*fn \([a-z_0-9]*\)(.*Units.*) -> Pixels\{0,1\}$/\2/p' | tr '\n' ' ')
 [ "$crossing" = 'pixels_of pixel_at ' ] || { echo "kinds: from units to pixels lead: $crossing"; exit 1; }
-echo 'kinds: six programs that mix units and pixels do not compile; pixels_of alone leads from one to the other'
+echo 'kinds: four programs that mix units and pixels, and two that pass a bare number for one, do not compile; pixels_of alone leads from units to pixels'

@@ -2,9 +2,10 @@
 use Prim.Native.Nat.{ℕ, zero, suc, _+_, _-_, _%_, _<_, _≤_}
 use mathlib.Core.Bool.{Bool, true, false, not, _&&_}
 use mathlib.Core.List.{List}
-use mathlib.Core.Path.{_≡_, sym, _∙_}
+use mathlib.Core.Path.{_≡_, refl, sym, _∙_}
 use native.Mathlib.Numerals.{sub-one}
 use native.Mathlib.Omega.{arith}
+use lib.Dec.{leb}
 use lib.ListN.{length, getD}
 use borrow.Author.Tests.{lt-ltb, le-ltb, le-leb, lt-leb, eq-eqb, ne-eqb, not-true, not-false}
 use Rattle.definition.specs.Choice.{firstOf}
@@ -13,25 +14,27 @@ use Rattle.definition.specs.Calls.{checkCall}
 use Rattle.definition.specs.declared.Unfetched.the-variants.{Odd, NoSegment, NoPlace}
 use Rattle.definition.specs.declared.Fetched.the-variants.{Word, Refused}
 
+and-false : (t : Bool) → t && false ≡ false
+and-false true = refl
+and-false false = refl
+
 -- ---- one segment
 module _ (head words start long : ℕ) where
   pub starts-early : start < head → false ≡ keeps head words start long
   unfolding keeps
   starts-early p = rw (lt-leb _ _ p)
 
-  module _ (past : head ≤ start) where
-    pub too-long : 4096 < long → false ≡ keeps head words start long
-    unfolding keeps
-    too-long p = rw (le-leb _ _ past, lt-leb _ _ p)
+  pub too-long : 4096 < long → false ≡ keeps head words start long
+  unfolding keeps
+  too-long p = rw (lt-leb _ _ p, and-false (leb head start))
 
-    module _ (fits : long ≤ 4096) where
-      pub ends-outside : words < start + long → false ≡ keeps head words start long
-      unfolding keeps
-      ends-outside p = rw (le-leb _ _ past, le-leb _ _ fits, lt-leb _ _ p)
+  pub ends-outside : words < start + long → false ≡ keeps head words start long
+  unfolding keeps
+  ends-outside p = rw (lt-leb _ _ p) (sym (and-false (leb head start && leb long 4096)))
 
-      pub ends-within : start + long ≤ words → true ≡ keeps head words start long
-      unfolding keeps
-      ends-within p = rw (le-leb _ _ past, le-leb _ _ fits, le-leb _ _ p)
+  pub ends-within : head ≤ start → long ≤ 4096 → start + long ≤ words → true ≡ keeps head words start long
+  unfolding keeps
+  ends-within p q r = rw (le-leb _ _ p, le-leb _ _ q, le-leb _ _ r)
 
 -- ---- the segments from the last one down: those from i on keep the rule
 keep-next : (f : List ℕ) (i : ℕ) → 0 < i → keepBelow f i ≡ keeps (header f) (length f) (offset f (i - 1)) (size f (i - 1)) && keepBelow f (i - 1)

@@ -110,7 +110,7 @@ parts-fit s e n i hs he hn hi =
 module _ (a b : ℤ) {s e n i : ℕ} (ps : pos s ≡ a +ℤ pos 2048) (pe : pos e ≡ b +ℤ pos 2048) (hn : 0 < n) (hi : i ≤ n) where
   -- raised, the rounded coordinate is the natural one
   nearest-is : pos (nearestTo s e n i) -ℤ pos 2048 ≡ rounded a (b -ℤ a) n i
-  unfolding rounded nearestTo
+  unfolding rounded
   nearest-is =
       let k = 2 * (s * (n - i) + e * i) + n in
       let q = k / (2 * n) in
@@ -132,7 +132,6 @@ module _ (a b : ℤ) {s e n i : ℕ} (ps : pos s ≡ a +ℤ pos 2048) (pe : pos 
 
   module _ (hs : s < 4096) (he : e < 4096) (top : n < 4096) {q : ℕ} (eq : q ≡ nearestTo s e n i) where
     small : q < 134217728
-    unfolding nearestTo
     small = omega (arith, parts-fit s e n i hs he top hi, div-le-self (2 * (s * (n - i) + e * i) + n) (2 * n))
 
     pub rounded-fits : SFits w32 (pos q)

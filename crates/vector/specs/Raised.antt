@@ -14,5 +14,5 @@ pub record Reaches (p : Pixel) : Type 0 where
   pub y : Reached (p .y)
 
 -- the rounded coordinate of the definition, where the two ends are counted from -2,048 and so are naturals
-unfoldable pub nearestTo : ℕ → ℕ → ℕ → ℕ → ℕ
+abbrev pub nearestTo : ℕ → ℕ → ℕ → ℕ → ℕ
 nearestTo s e n i = (2 * (s * (n - i) + e * i) + n) / (2 * n)

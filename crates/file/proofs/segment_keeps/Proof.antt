@@ -26,13 +26,13 @@ returns : tie.Need-returns
 returns c = starts-early _ _ _ _ (omega arith)
 
 returns-2 : tie.Need-returns-2
-returns-2 c = too-long _ _ _ _ (omega arith) (omega arith)
+returns-2 c = too-long _ _ _ _ (omega arith)
 
 add-if3 : tie.Need-add-if3
 add-if3 c = search needs
 
 returns-3 : tie.Need-returns-3
-returns-3 c = ends-outside _ _ _ _ (omega arith) (omega arith) (omega arith)
+returns-3 c = ends-outside _ _ _ _ (omega arith)
 
 returns-4 : tie.Need-returns-4
 returns-4 c = ends-within _ _ _ _ (omega arith) (omega arith) (omega arith)

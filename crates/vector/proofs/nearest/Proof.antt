@@ -1,7 +1,6 @@
 use Prim.Native.Nat.{_-_, _*_, _≤_}
 use mathlib.Core.Path.{refl}
 use native.Mathlib.Omega.{arith}
-use Rattle.vector.specs.Raised.{nearestTo}
 use Rattle.vector.proofs.CoordinateLaws.{parts-fit}
 use borrow.Author.Needs.{needs}
 use Rattle.vector.proofs.nearest.Statement.{statement}
@@ -35,7 +34,6 @@ div-result : tie.Need-div-result
 div-result c = search needs
 
 returns : tie.Need-returns
-unfolding nearestTo
 returns c = refl
 
 pub nearest-spec : {M : Type 1} → statement M
