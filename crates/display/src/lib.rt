@@ -1,0 +1,110 @@
+// The public calls. Each asks its doors first, and asks nothing of its caller.
+use definition::Counts;
+use definition::Machine;
+use definition::Pixel;
+use definition::Ran;
+use definition::Read;
+use definition::Started;
+use definition::Units;
+use units::Index;
+ghost use Rattle.definition.specs.Calls.{plain, turnedAway};
+ghost use Rattle.definition.specs.Promises.{Promise-check, Promise-fresh, Promise-start, Promise-run, Promise-step, Promise-clear, Promise-read};
+
+pub fn check(file: &[u16]) -> u8
+    ensures { λ r. ⌜ Promise-check (now (file .entry)) r ⌝ }
+{
+    file::check(file)
+}
+
+pub fn fresh() -> Machine
+    ensures { λ r. ⌜ Promise-fresh r ⌝ }
+{
+    Machine {
+        counter: 0,
+        x: Units(0),
+        y: Units(0),
+        mode: NO_MODE,
+        value: 3,
+        write: true,
+        latch: false,
+        increment: 0,
+        status: 0,
+    }
+}
+
+// The counter and the status are set, the rest is kept; from every status, and at odd addresses too.
+pub fn start(m: Machine, address: u16) -> Started
+    ensures { λ r. ⌜ Promise-start m address r ⌝ }
+{
+    if !machine::ranged(m) {
+        return Started {
+            answer: 16,
+            machine: m,
+        };
+    }
+    let mut n = m;
+    n.counter = address;
+    n.status = 0;
+    Started {
+        answer: 0,
+        machine: n,
+    }
+}
+
+pub fn step(file: &[u16], m: Machine, image: &mut [u8]) -> Ran
+    ensures { λ r. ⌜ Promise-step (plain (now (file .entry))) m (now (image .entry)) r (now (image .exit)) ⌝ }
+{
+    run(file, m, image, 1)
+}
+
+pub fn run(file: &[u16], m: Machine, image: &mut [u8], budget: u32) -> Ran
+    ensures { λ r. ⌜ Promise-run (plain (now (file .entry))) m (now (image .entry)) budget r (now (image .exit)) ⌝ }
+{
+    let door = machine::run_door(file, m, image, budget);
+    if door != 0 {
+        return turned_away(m, door);
+    }
+    machine::run(file, m, image, budget)
+}
+
+// A call refused at a door counts nothing, and the machine is as given.
+fn turned_away(m: Machine, door: u8) -> Ran
+{
+    Ran {
+        answer: door,
+        counts: Counts {
+            steps: 0,
+            words: 0,
+            stores: 0,
+        },
+        machine: m,
+    }
+}
+
+pub fn clear(image: &mut [u8]) -> u8
+    ensures { λ r. ⌜ Promise-clear (now (image .entry)) r (now (image .exit)) ⌝ }
+{
+    if image.len() != IMAGE_BYTES {
+        return 11;
+    }
+    image::clear(image);
+    0
+}
+
+pub fn read_pixel(image: &[u8], p: Pixel) -> Read
+    ensures { λ r. ⌜ Promise-read (now (image .entry)) p r ⌝ }
+{
+    if image.len() != IMAGE_BYTES {
+        return unread(11);
+    }
+    let Index::At(x) = units::index_in(WIDTH, p.x) else {
+        return unread(31);
+    };
+    let Index::At(y) = units::index_in(HEIGHT, p.y) else {
+        return unread(31);
+    };
+    Read {
+        answer: 0,
+        digit: image::read(image, x, y),
+    }
+}

@@ -1,0 +1,169 @@
+// The items, their words not refused: 27, or where each goes and what it draws. And how a step ends.
+use definition::Counts;
+use definition::Machine;
+use definition::Units;
+use units::Moved;
+ghost use mathlib.Core.Path.{_≡_};
+ghost use mathlib.Core.Bool.{true, false};
+ghost use Prim.Native.Nat.{_<_};
+ghost use lib.IntN.{pos};
+ghost use lib.ListN.{length};
+ghost use Rattle.definition.specs.Choice.{pick};
+ghost use Rattle.definition.specs.Units.{units, moved};
+ghost use Rattle.definition.specs.Image.{square, pixelAt, imageBytes, left};
+ghost use Rattle.definition.specs.Vector.{vector};
+ghost use Rattle.definition.specs.Machine.{next, past, withPosition, withCounter, inRange, ranged};
+ghost use Rattle.definition.specs.Step.{way, pointAt, vectorBy, refuses};
+ghost use Rattle.definition.specs.Step.Change.{Set, Move};
+ghost use Rattle.items.specs.Goes.{told, stepped, lights, goes};
+
+// What a step answers: the machine that it leaves, and what it counts.
+pub struct Stepped {
+    pub machine: Machine,
+    pub counts: Counts,
+}
+
+// The counter goes up by 2 a word, and after 65,534 comes 0.
+pub fn next(counter: u16) -> u16
+    ensures { λ r. ⌜ r ≡ next counter ⌝ }
+{
+    std::num::wrapping_add_u16(counter, 2)
+}
+
+// A refusal sets the status and nothing else, and is not counted.
+pub fn refused(m: Machine, why: u8) -> Stepped
+    ensures { λ r. ⌜ r ≡ told (refuses m why) ⌝ }
+{
+    let mut n = m;
+    n.status = why;
+    Stepped {
+        machine: n,
+        counts: Counts {
+            steps: 0,
+            words: 0,
+            stores: 0,
+        },
+    }
+}
+
+// A step that completes counts one step, and its words and stores.
+pub fn completed(m: Machine, words: u32, stores: u32) -> Stepped
+    ensures { λ r. ⌜ r ≡ record { machine = m; counts = record { steps = 1; words = words; stores = stores } } ⌝ }
+{
+    Stepped {
+        machine: m,
+        counts: Counts {
+            steps: 1,
+            words,
+            stores,
+        },
+    }
+}
+
+// An item that completes: at its new position, the counter past its words.
+fn placed(m: Machine, second: bool, x: Units, y: Units, stores: u32) -> Stepped
+    ensures { λ r. ⌜ r ≡ record { machine = withPosition (withCounter m (past (pick second 2 1) (m .counter))) x y; counts = record { steps = 1; words = pick second 2 1; stores = stores } } ⌝ }
+{
+    let mut n = m;
+    n.x = x;
+    n.y = y;
+    n.counter = next(m.counter);
+    if second {
+        n.counter = next(n.counter);
+        return completed(n, 2, stores);
+    }
+    completed(n, 1, stores)
+}
+
+// A lit item is stored only while write is on.
+fn point(m: Machine, image: &mut [u8], lit: bool, x: Units, y: Units) -> u32
+    requires { ⌜ (length (now image) ≡ imageBytes) × (m .value < 4) ⌝ }
+    ensures { λ r. ⌜ left r (now (image .exit)) ≡ lights m lit (now (image .entry)) (pointAt m x y) ⌝ }
+{
+    if !lit {
+        return 0;
+    }
+    if !m.write {
+        return 0;
+    }
+    image::plot(image, units::pixel_at(x, y), m.value)
+}
+
+// From the position to (x, y).
+fn line(m: Machine, image: &mut [u8], lit: bool, x: Units, y: Units) -> u32
+    requires { ⌜ (length (now image) ≡ imageBytes) × (ranged m ≡ true) × (inRange x ≡ true) × (inRange y ≡ true) ⌝ }
+    ensures { λ r. ⌜ left r (now (image .exit)) ≡ lights m lit (now (image .entry)) (vector (pixelAt square (m .x) (m .y)) (pixelAt square x y)) ⌝ }
+{
+    if !lit {
+        return 0;
+    }
+    if !m.write {
+        return 0;
+    }
+    let from = units::pixel_at(m.x, m.y);
+    vector::draw(image, from, units::pixel_at(x, y), m.value)
+}
+
+// A short vector, and a long one, which has a second word.
+pub fn vector_by(m: Machine, image: &mut [u8], lit: bool, dx: Units, dy: Units, second: bool) -> Stepped
+    requires { ⌜ (length (now image) ≡ imageBytes) × (ranged m ≡ true) ⌝ }
+    ensures { λ r. ⌜ left r (now (image .exit)) ≡ stepped m (now (image .entry)) (goes m lit (way (Move dx) (Move dy)) (vectorBy m dx dy) second) ⌝ }
+{
+    let Moved::To(x) = units::moved_to(m.x, dx) else {
+        return refused(m, 27);
+    };
+    let Moved::To(y) = units::moved_to(m.y, dy) else {
+        return refused(m, 27);
+    };
+    let stores = line(m, image, lit, x, y);
+    placed(m, second, x, y, stores)
+}
+
+// Moves as a short vector does, and plots the end alone.
+pub fn relative_point(m: Machine, image: &mut [u8], lit: bool, dx: Units, dy: Units) -> Stepped
+    requires { ⌜ (length (now image) ≡ imageBytes) × (ranged m ≡ true) ⌝ }
+    ensures { λ r. ⌜ left r (now (image .exit)) ≡ stepped m (now (image .entry)) (goes m lit (way (Move dx) (Move dy)) (pointAt m (moved (m .x) dx) (moved (m .y) dy)) false) ⌝ }
+{
+    let Moved::To(x) = units::moved_to(m.x, dx) else {
+        return refused(m, 27);
+    };
+    let Moved::To(y) = units::moved_to(m.y, dy) else {
+        return refused(m, 27);
+    };
+    let stores = point(m, image, lit, x, y);
+    placed(m, false, x, y, stores)
+}
+
+pub fn absolute_point(m: Machine, image: &mut [u8], lit: bool, x: Units, y: Units) -> Stepped
+    requires { ⌜ (length (now image) ≡ imageBytes) × (ranged m ≡ true) × (inRange x ≡ true) × (inRange y ≡ true) ⌝ }
+    ensures { λ r. ⌜ left r (now (image .exit)) ≡ stepped m (now (image .entry)) (goes m lit (way (Set x) (Set y)) (pointAt m x y) true) ⌝ }
+{
+    let stores = point(m, image, lit, x, y);
+    placed(m, true, x, y, stores)
+}
+
+// The point is plotted at the Y from before the step; then Y grows by the increment.
+pub fn graph_x(m: Machine, image: &mut [u8], lit: bool, x: Units) -> Stepped
+    requires { ⌜ (length (now image) ≡ imageBytes) × (ranged m ≡ true) × (inRange x ≡ true) ⌝ }
+    ensures { λ r. ⌜ left r (now (image .exit)) ≡ stepped m (now (image .entry)) (goes m lit (way (Set x) (Move (units (pos (m .increment))))) (pointAt m x (m .y)) false) ⌝ }
+{
+    let grown = units::moved_to(m.y, Units(m.increment as i32));
+    let Moved::To(y) = grown else {
+        return refused(m, 27);
+    };
+    let stores = point(m, image, lit, x, m.y);
+    placed(m, false, x, y, stores)
+}
+
+// The point is plotted at the X from before the step; then X grows by the increment.
+pub fn graph_y(m: Machine, image: &mut [u8], lit: bool, y: Units) -> Stepped
+    requires { ⌜ (length (now image) ≡ imageBytes) × (ranged m ≡ true) × (inRange y ≡ true) ⌝ }
+    ensures { λ r. ⌜ left r (now (image .exit)) ≡ stepped m (now (image .entry)) (goes m lit (way (Move (units (pos (m .increment)))) (Set y)) (pointAt m (m .x) y) false) ⌝ }
+{
+    let grown = units::moved_to(m.x, Units(m.increment as i32));
+    let Moved::To(x) = grown else {
+        return refused(m, 27);
+    };
+    let stores = point(m, image, lit, m.x, y);
+    placed(m, false, x, y, stores)
+}
