@@ -1,7 +1,7 @@
 -- Given exactly when: a list of tests answers a number exactly when a test of that number holds and none before it does.
 use Prim.Native.Nat.{ℕ, _<_}
 use mathlib.Core.Bool.{Bool, true, false, _||_}
-use mathlib.Core.List.{List, [], _∷_}
+use mathlib.Core.List.{List, [], _∷_, _++_}
 use mathlib.Core.Path.{_≡_, refl, sym}
 use mathlib.Core.Logic.{_⊎_, inl, inr, ⊎-elim, _↔_}
 use native.Mathlib.Omega.{arith}
@@ -83,3 +83,22 @@ fails n ts e z = go ts (none-holds ts e .0 z)
     go : (ts : List Test) → None ts → Fails n ts
     go [] h = tt
     go (t ∷ ts) h = one-fails t (eqb (t .number) n) (names n ts) (Fails n ts) (h .0) (go ts (h .1))
+
+-- ---- a list before another: where it answers 0 the other one answers, else it answers itself
+pub passes : (ts us : List Test) → names 0 ts ≡ false → firstOf ts ≡ 0 → firstOf (ts ++ us) ≡ firstOf us
+unfolding firstOf
+passes ts us e z = go ts (none-holds ts e .0 z)
+  where
+    go : (ts : List Test) → None ts → firstOf (ts ++ us) ≡ firstOf us
+    go [] h = refl
+    go (t ∷ ts) h = rw (h .0) (go ts (h .1))
+
+pub stops : (ts us : List Test) → (firstOf ts ≡ 0 → ⊥) → firstOf (ts ++ us) ≡ firstOf ts
+unfolding firstOf
+stops [] us h = absurd (h refl)
+stops (t ∷ ts) us h = go (t .holds) h (stops ts us)
+  where
+    go : (b : Bool) → (pick b (t .number) (firstOf ts) ≡ 0 → ⊥) → ((firstOf ts ≡ 0 → ⊥) → firstOf (ts ++ us) ≡ firstOf ts)
+        → pick b (t .number) (firstOf (ts ++ us)) ≡ pick b (t .number) (firstOf ts)
+    go true h g = refl
+    go false h g = g h

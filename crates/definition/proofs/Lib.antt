@@ -9,3 +9,4 @@ pub mod Plain
 pub mod VectorLaws
 pub mod Digits
 pub mod StoreLaws
+pub mod StepLaws

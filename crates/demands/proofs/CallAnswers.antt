@@ -23,8 +23,9 @@ use Rattle.definition.proofs.Exactly.{Answers, exactly, none-holds}
 use Rattle.definition.proofs.Plain.{_so_, _and_, _or_, itself, back, is-less, not-less, is-most, is-equal, not-equal, not-true, not-false, both-true, either-true, failing, never}
 use Rattle.demands.specs.Outcomes.{refusedAfter}
 use Rattle.demands.specs.Conditions.{Accepted, Fits, Open, During}
-use Rattle.demands.proofs.Runs.{on, step-done, step-refused, refused-only, run-turn, run-stopped, run-add}
-use Rattle.demands.proofs.Kept.{fits, first-is, run-fits}
+use Rattle.definition.proofs.StepLaws.{on, step-done, step-refused, run-turn, run-stopped, first-is}
+use Rattle.demands.proofs.Runs.{refused-only, run-add}
+use Rattle.demands.proofs.Kept.{fits, run-fits}
 use Rattle.demands.proofs.FileAnswers.{check-exactly, check-0}
 use Rattle.demands.proofs.StepAnswers.{above-two}
 

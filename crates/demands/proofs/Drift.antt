@@ -23,7 +23,7 @@ use Rattle.definition.specs.declared.Order.the-variants.{SetMode, Jump, NoOp, S
 use Rattle.definition.specs.declared.Instruction.{Instruction}
 use Rattle.definition.specs.declared.Instruction.the-variants.{Does, Draws}
 use Rattle.demands.specs.Ledger.{entry, completed, orderIncrement, incrementAfter, changes, lastSetting, sumSince, settled}
-use Rattle.demands.proofs.Runs.{on, step-done, step-refused, run-stopped}
+use Rattle.definition.proofs.StepLaws.{on, step-done, step-refused, run-stopped}
 
 from-nothing : (u : Units) → u ≡ units (u .0 +ℤ pos 0)
 from-nothing u = ap units (omega (whole, add (u .0) (pos 0)))

@@ -28,7 +28,7 @@ use Rattle.definition.specs.declared.Instruction.the-variants.{Draws}
 use Rattle.definition.proofs.StoreLaws.{stores-append, inside-append}
 use Rattle.demands.specs.Conditions.{InRange}
 use Rattle.demands.specs.Graphs.{Axis, AlongX, AlongY, modeOf, stepped, valued, pixelOn, weeks, shown, went, Ready, plotted}
-use Rattle.demands.proofs.Runs.{on, step-done, run-turn}
+use Rattle.definition.proofs.StepLaws.{on, step-done, run-turn}
 use Rattle.demands.proofs.Kept.{in-range}
 
 -- ---- one word

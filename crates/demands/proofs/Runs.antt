@@ -5,20 +5,16 @@ use mathlib.Core.List.{List}
 use mathlib.Core.Path.{_≡_, refl, sym, ap, _∙_}
 use native.Mathlib.Nat.{zero-add, suc-add, add-assoc, add-zero}
 use lib.Dec.{eqb}
-use borrow.Author.Tests.{eq-eqb, ne-eqb, eqb-true, eqb-false}
+use borrow.Author.Tests.{eqb-false}
 use Rattle.definition.specs.Choice.{pick}
 use Rattle.definition.specs.Image.{stores}
-use Rattle.definition.specs.File.{wordIn}
 use Rattle.definition.specs.Machine.{withStatus}
-use Rattle.definition.specs.Step.{Given, Step, completes, refuses, second, instruction, refusal, step}
+use Rattle.definition.specs.Step.{Given, refusal}
 use Rattle.definition.specs.Run.{nothing, summed, State, begun, after, run}
 use Rattle.definition.specs.declared.Machine.{Machine}
 use Rattle.definition.specs.declared.Counts.{Counts}
+use Rattle.definition.proofs.StepLaws.{pick-keeps, step-refused, on, run-stopped}
 use Rattle.demands.specs.Outcomes.{plus}
-
-pub pick-keeps : {A : Type 0} (P : A → Type 0) (t : Bool) {a b : A} → (t ≡ true → P a) → (t ≡ false → P b) → P (pick t a b)
-pick-keeps P true p q = p refl
-pick-keeps P false p q = q refl
 
 -- nothing adds nothing
 pub summed-nothing : (a : Counts) → summed a nothing ≡ a
@@ -29,65 +25,38 @@ pick-plus true t x s = refl
 pick-plus false t x s = refl
 
 module _ (g : Given) where
-  -- ---- a step
-  pub step-done : (m : Machine) → refusal g m ≡ 0 → step g m ≡ completes m (instruction g m) (wordIn (second g m))
-  unfolding step
-  step-done m e = rw (eq-eqb _ _ e)
-
-  pub step-refused : (m : Machine) → (refusal g m ≡ 0 → ⊥) → step g m ≡ refuses m (refusal g m)
-  unfolding step
-  step-refused m h = rw (ne-eqb _ _ h)
-
-  pub step-keeps : (P : Step → Type 0) (m : Machine) → (refusal g m ≡ 0 → P (completes m (instruction g m) (wordIn (second g m)))) → P (refuses m (refusal g m)) → P (step g m)
-  unfolding step
-  step-keeps P m p q = pick-keeps P (eqb (refusal g m) 0) (λ e. p (eqb-true _ _ e)) (λ e. q)
-
-  -- ---- a run
-  -- one step on
-  abbrev pub on : State → State
-  on s = after s (step g (s .machine))
-
   -- a refused instruction changes the status and nothing else
-  pub refused-only : (s : State) → (refusal g (s .machine) ≡ 0 → ⊥) → on s ≡ record { machine = withStatus (s .machine) (refusal g (s .machine)); image = s .image; counts = s .counts }
+  pub refused-only : (s : State) → (refusal g (s .machine) ≡ 0 → ⊥) → on g s ≡ record { machine = withStatus (s .machine) (refusal g (s .machine)); image = s .image; counts = s .counts }
   unfolding stores
   refused-only s h =
-      ap (after s) (step-refused (s .machine) h)
+      ap (after s) (step-refused g (s .machine) h)
       ∙ ap (λ (c : Counts). let t : State = record { machine = withStatus (s .machine) (refusal g (s .machine)); image = s .image; counts = c } in t) (summed-nothing (s .counts))
 
-  pub run-keeps : (P : State → Type 0) → ((s : State) → P s → P (on s)) → (b : ℕ) (s : State) → P s → P (run g b s)
+  pub run-keeps : (P : State → Type 0) → ((s : State) → P s → P (on g s)) → (b : ℕ) (s : State) → P s → P (run g b s)
   unfolding run
   run-keeps P k zero s p = p
-  run-keeps P k (suc b) s p = pick-keeps P (eqb (s .machine .status) 0) (λ e. run-keeps P k b (on s) (k s p)) (λ e. p)
-
-  pub run-turn : (b : ℕ) (s : State) → s .machine .status ≡ 0 → run g (suc b) s ≡ run g b (on s)
-  unfolding run
-  run-turn b s e = rw (eq-eqb _ _ e)
-
-  pub run-stopped : (b : ℕ) (s : State) → (s .machine .status ≡ 0 → ⊥) → run g b s ≡ s
-  unfolding run
-  run-stopped zero s h = refl
-  run-stopped (suc b) s h = rw (ne-eqb _ _ h)
+  run-keeps P k (suc b) s p = pick-keeps P (eqb (s .machine .status) 0) (λ e. run-keeps P k b (on g s) (k s p)) (λ e. p)
 
   -- a run of b + c is a run of b and then one of c
   pub run-add : (b c : ℕ) (s : State) → run g (b + c) s ≡ run g c (run g b s)
   unfolding run
   run-add zero c s = rw zero-add
-  run-add (suc b) c s = rw suc-add (go (eqb (s .machine .status) 0) (run g b (on s)) refl (run-add b c (on s)))
+  run-add (suc b) c s = rw suc-add (go (eqb (s .machine .status) 0) (run g b (on g s)) refl (run-add b c (on g s)))
     where
       go : (t : Bool) {u : State} (v : State) → eqb (s .machine .status) 0 ≡ t → u ≡ run g c v → pick t u s ≡ run g c (pick t v s)
       go true v h e = e
-      go false v h e = sym (run-stopped c s (eqb-false _ _ h))
+      go false v h e = sym (run-stopped g c s (eqb-false _ _ h))
 
   -- ---- counts from before
-  on-plus : (t : Counts) (s : State) → on (plus t s) ≡ plus t (on s)
+  on-plus : (t : Counts) (s : State) → on g (plus t s) ≡ plus t (on g s)
   on-plus t s = simp add-assoc
 
   pub run-plus : (b : ℕ) (t : Counts) (s : State) → run g b (plus t s) ≡ plus t (run g b s)
   unfolding run
   run-plus zero t s = refl
   run-plus (suc b) t s =
-      ap (λ (x : State). pick (eqb (s .machine .status) 0) x (plus t s)) (ap (run g b) (on-plus t s) ∙ run-plus b t (on s))
-      ∙ pick-plus (eqb (s .machine .status) 0) t (run g b (on s)) s
+      ap (λ (x : State). pick (eqb (s .machine .status) 0) x (plus t s)) (ap (run g b) (on-plus t s) ∙ run-plus b t (on g s))
+      ∙ pick-plus (eqb (s .machine .status) 0) t (run g b (on g s)) s
 
   -- and so the counts of two runs in a row, each from nothing, are summed
   pub run-twice : (b c : ℕ) (m : Machine) (im : List ℕ)

@@ -22,8 +22,8 @@ use Rattle.definition.specs.declared.Order.the-variants.{SetMode, Jump, NoOp, S
 use Rattle.definition.proofs.Exactly.{apart, Answers, exactly, none-holds}
 use Rattle.definition.proofs.Plain.{_so_, _and_, _or_, itself, back, is-equal, not-equal, not-true, not-false, both-true, either-true, either-false, failing, never, implies, unless, over}
 use Rattle.demands.specs.Conditions.{InRange, Fits, On, Off, NotBuilt, NoMode, Pair, word, more, Begins, Continues, FetchRefused, taken, newX, newY, Stops, stopNumber, LatchIs}
-use Rattle.demands.proofs.Runs.{pick-keeps, step-done, step-refused}
-use Rattle.demands.proofs.Kept.{in-range, refusal-is}
+use Rattle.definition.proofs.StepLaws.{pick-keeps, step-done, step-refused, refusal-is}
+use Rattle.demands.proofs.Kept.{in-range}
 use Rattle.demands.proofs.WordAnswers.{is-off, not-built, no-mode, is-pair, has-second, is-status-a}
 
 -- ---- a fetch: no refusal, or this one

@@ -14,7 +14,7 @@ use Rattle.definition.specs.declared.Instruction.{Instruction}
 use Rattle.definition.specs.declared.Instruction.the-variants.{Does}
 use Rattle.definition.proofs.Exactly.{apart}
 use Rattle.definition.proofs.Plain.{_so_, _and_, _or_, is-most, is-equal, not-equal, not-true, both-true, either-true}
-use Rattle.demands.proofs.Runs.{pick-keeps}
+use Rattle.definition.proofs.StepLaws.{pick-keeps}
 use Rattle.demands.specs.Conditions.{On, NotBuilt, NoMode, Pair, TwoWords}
 
 -- ---- a bit that is not set is clear

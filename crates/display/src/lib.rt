@@ -68,8 +68,7 @@ pub fn run(file: &[u16], m: Machine, image: &mut [u8], budget: u32) -> Ran
 }
 
 // A call refused at a door counts nothing, and the machine is as given.
-fn turned_away(m: Machine, door: u8) -> Ran
-{
+fn turned_away(m: Machine, door: u8) -> Ran {
     Ran {
         answer: door,
         counts: Counts {

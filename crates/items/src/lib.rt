@@ -105,7 +105,14 @@ fn line(m: Machine, image: &mut [u8], lit: bool, x: Units, y: Units) -> u32
 }
 
 // A short vector, and a long one, which has a second word.
-pub fn vector_by(m: Machine, image: &mut [u8], lit: bool, dx: Units, dy: Units, second: bool) -> Stepped
+pub fn vector_by(
+    m: Machine,
+    image: &mut [u8],
+    lit: bool,
+    dx: Units,
+    dy: Units,
+    second: bool,
+) -> Stepped
     requires { ⌜ (length (now image) ≡ imageBytes) × (ranged m ≡ true) ⌝ }
     ensures { λ r. ⌜ left r (now (image .exit)) ≡ stepped m (now (image .entry)) (goes m lit (way (Move dx) (Move dy)) (vectorBy m dx dy) second) ⌝ }
 {

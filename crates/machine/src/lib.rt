@@ -99,8 +99,7 @@ fn jump(file: &[u16], m: Machine) -> Stepped
 }
 
 // An order of one word: the counter goes past it.
-fn passed(m: Machine) -> Stepped
-{
+fn passed(m: Machine) -> Stepped {
     let mut n = m;
     n.counter = items::next(m.counter);
     items::completed(n, 1, 0)
