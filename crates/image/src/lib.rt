@@ -8,9 +8,11 @@ ghost use lib.ListN.{length};
 ghost use Rattle.definition.specs.Image.{square, imageBytes, digit, putDigit, digitAt, store, left};
 ghost use Rattle.image.specs.Drawn.{drawn, cleared};
 
-const WIDTH: usize = 512;
+pub const WIDTH: usize = 512;
 
-const HEIGHT: usize = 512;
+pub const HEIGHT: usize = 512;
+
+pub const BYTES: usize = 65536;
 
 // Digit k of a byte in base four: two bits, from bit 2k up.
 fn digit(byte: u8, k: usize) -> u8

@@ -4,7 +4,8 @@ use mathlib.Core.Bool.{Bool, _&&_, _||_}
 use mathlib.Core.List.{List, []}
 use lib.ListN.{length}
 use Rattle.definition.specs.Choice.{pick}
-use Rattle.definition.specs.Image.{Left, left, inside, stores}
+use Rattle.definition.specs.Image.{Left, left, pixelAt, inside, stores}
+use Rattle.definition.specs.Vector.{vector}
 use Rattle.definition.specs.Machine.{past, withCounter, withPosition, shapeOf, penOf}
 use Rattle.definition.specs.Step.{Way, changed, leaves, Step, refuses}
 use Rattle.definition.specs.Run.{counted}
@@ -20,6 +21,14 @@ told t = record { machine = t .machine; counts = counted t }
 unfoldable pub stepped : Machine → List ℕ → Step → Left Stepped
 stepped m im t = left (told t) (stores (shapeOf m) (penOf m) im (t .pixels))
 
+-- what is answered for a step that completes: it counts as one
+abbrev pub completed : Machine → ℕ → ℕ → Stepped
+completed m words stores = record { machine = m; counts = record { steps = 1; words = words; stores = stores } }
+
+-- the vector from the position to (x, y)
+abbrev pub vectorTo : Machine → Units → Units → List Pixel
+vectorTo m x y = vector (pixelAt (shapeOf m) (m .x) (m .y)) (pixelAt (shapeOf m) x y)
+
 -- of the pixels that an item lights, those that are stored: how many, and the image that is left
 unfoldable pub kept : Machine → Bool → List Pixel → List Pixel
 kept m lit ps = pick (lit && m .write) (inside (shapeOf m) ps) []
@@ -27,18 +36,15 @@ kept m lit ps = pick (lit && m .write) (inside (shapeOf m) ps) []
 unfoldable pub lights : Machine → Bool → List ℕ → List Pixel → Left ℕ
 lights m lit im ps = left (length (kept m lit ps)) (stores (shapeOf m) (penOf m) im (kept m lit ps))
 
--- an item that completes, at its new position
-unfoldable pub placed : Machine → Bool → Units → Units → List Pixel → Step
-placed m second x y ps =
-    record {
-      machine = withPosition (withCounter m (past (pick second 2 1) (m .counter))) x y;
-      steps = 1;
-      words = pick second 2 1;
-      pixels = ps;
-    }
+-- an item's words, and the machine once it is past them, at (x, y)
+abbrev pub wordsIf : Bool → ℕ
+wordsIf second = pick second 2 1
+
+abbrev pub placed : Machine → Bool → Units → Units → Machine
+placed m second x y = withPosition (withCounter m (past (wordsIf second) (m .counter))) x y
 
 -- an item by its way, the pixels that it lights, and whether it has a second word
 unfoldable pub goes : Machine → Bool → Way → List Pixel → Bool → Step
 goes m lit w ps second =
     pick (leaves (m .x) (w .x) || leaves (m .y) (w .y)) (refuses m 27)
-    (placed m second (changed (m .x) (w .x)) (changed (m .y) (w .y)) (kept m lit ps))
+    (record { machine = placed m second (changed (m .x) (w .x)) (changed (m .y) (w .y)); steps = 1; words = wordsIf second; pixels = kept m lit ps })

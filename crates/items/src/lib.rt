@@ -8,14 +8,12 @@ ghost use mathlib.Core.Bool.{true, false};
 ghost use Prim.Native.Nat.{_<_};
 ghost use lib.IntN.{pos};
 ghost use lib.ListN.{length};
-ghost use Rattle.definition.specs.Choice.{pick};
 ghost use Rattle.definition.specs.Units.{units, moved};
-ghost use Rattle.definition.specs.Image.{square, pixelAt, imageBytes, left};
-ghost use Rattle.definition.specs.Vector.{vector};
-ghost use Rattle.definition.specs.Machine.{next, past, withPosition, withCounter, inRange, ranged};
+ghost use Rattle.definition.specs.Image.{imageBytes, left};
+ghost use Rattle.definition.specs.Machine.{next, inRange, ranged};
 ghost use Rattle.definition.specs.Step.{way, pointAt, vectorBy, refuses};
 ghost use Rattle.definition.specs.Step.Change.{Set, Move};
-ghost use Rattle.items.specs.Goes.{told, stepped, lights, goes};
+ghost use Rattle.items.specs.Goes.{told, stepped, completed, vectorTo, lights, wordsIf, placed, goes};
 
 // What a step answers: the machine that it leaves, and what it counts.
 pub struct Stepped {
@@ -48,7 +46,7 @@ pub fn refused(m: Machine, why: u8) -> Stepped
 
 // A step that completes counts one step, and its words and stores.
 pub fn completed(m: Machine, words: u32, stores: u32) -> Stepped
-    ensures { λ r. ⌜ r ≡ record { machine = m; counts = record { steps = 1; words = words; stores = stores } } ⌝ }
+    ensures { λ r. ⌜ r ≡ completed m words stores ⌝ }
 {
     Stepped {
         machine: m,
@@ -62,7 +60,7 @@ pub fn completed(m: Machine, words: u32, stores: u32) -> Stepped
 
 // An item that completes: at its new position, the counter past its words.
 fn placed(m: Machine, second: bool, x: Units, y: Units, stores: u32) -> Stepped
-    ensures { λ r. ⌜ r ≡ record { machine = withPosition (withCounter m (past (pick second 2 1) (m .counter))) x y; counts = record { steps = 1; words = pick second 2 1; stores = stores } } ⌝ }
+    ensures { λ r. ⌜ r ≡ completed (placed m second x y) (wordsIf second) stores ⌝ }
 {
     let mut n = m;
     n.x = x;
@@ -92,7 +90,7 @@ fn point(m: Machine, image: &mut [u8], lit: bool, x: Units, y: Units) -> u32
 // From the position to (x, y).
 fn line(m: Machine, image: &mut [u8], lit: bool, x: Units, y: Units) -> u32
     requires { ⌜ (length (now image) ≡ imageBytes) × (ranged m ≡ true) × (inRange x ≡ true) × (inRange y ≡ true) ⌝ }
-    ensures { λ r. ⌜ left r (now (image .exit)) ≡ lights m lit (now (image .entry)) (vector (pixelAt square (m .x) (m .y)) (pixelAt square x y)) ⌝ }
+    ensures { λ r. ⌜ left r (now (image .exit)) ≡ lights m lit (now (image .entry)) (vectorTo m x y) ⌝ }
 {
     if !lit {
         return 0;

@@ -1,14 +1,28 @@
 -- The rest of a step, once its first word is there and is not refused: the refusals that are left, in their order, or what the instruction does.
-use Prim.Native.Nat.{ℕ}
+use mathlib.Core.Bool.{true}
 use mathlib.Core.List.{List, [], _∷_}
+use mathlib.Core.Path.{_≡_}
 use lib.Dec.{eqb}
 use Rattle.definition.specs.Choice.{pick, Test, firstOf, joined, onlyIf}
 use Rattle.definition.specs.File.{wordIn, fetchRefusals}
 use Rattle.definition.specs.Words.{isPaired, hasSecond, secondRefusals}
+use Rattle.definition.specs.Machine.{inRange, next, withCounter}
 use Rattle.definition.specs.Step.{Given, second, wayOf, wayRefusals, Step, completes, refuses}
 use Rattle.definition.specs.declared.Machine.{Machine}
 use Rattle.definition.specs.declared.Fetched.{Fetched}
+use Rattle.definition.specs.declared.Item.{Item}
+use Rattle.definition.specs.declared.Item.the-variants.{ShortVector, LongVector, AbsolutePoint, GraphX, GraphY, RelativePoint}
 use Rattle.definition.specs.declared.Instruction.{Instruction}
+use Rattle.items.specs.declared.Stepped.{Stepped}
+
+-- the coordinates that an item sets outright are in range
+abbrev pub SetsWithin : Item → Type 0
+SetsWithin (ShortVector dx dy) = Unit {0}
+SetsWithin (LongVector dx) = Unit {0}
+SetsWithin (AbsolutePoint x) = inRange x ≡ true
+SetsWithin (GraphX x) = inRange x ≡ true
+SetsWithin (GraphY y) = inRange y ≡ true
+SetsWithin (RelativePoint dx dy) = Unit {0}
 
 unfoldable pub restRefusals : Machine → Instruction → Fetched → List Test
 restRefusals m i more =
@@ -22,3 +36,7 @@ unfoldable pub rest : Given → Machine → Instruction → Step
 rest g m i =
     let why = firstOf (restRefusals m i (second g m)) in
     pick (eqb why 0) (completes m i (wordIn (second g m))) (refuses m why)
+
+-- an order of one word, once it is obeyed: the counter goes past it
+abbrev pub passedBy : Machine → Stepped
+passedBy m = record { machine = withCounter m (next (m .counter)); counts = record { steps = 1; words = 1; stores = 0 } }

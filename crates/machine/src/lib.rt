@@ -16,17 +16,20 @@ ghost use mathlib.Core.Path.{_≡_};
 ghost use mathlib.Core.Bool.{true};
 ghost use Prim.Native.Nat.{_≤_};
 ghost use lib.ListN.{length};
+ghost use Rattle.definition.specs.Choice.{pick};
 ghost use Rattle.definition.specs.Image.{imageBytes, left};
 ghost use Rattle.definition.specs.File.{numberIn};
-ghost use Rattle.definition.specs.Machine.{inRange, isMode, isStatus, ranged};
+ghost use Rattle.definition.specs.Machine.{withLatch, inRange, isMode, isStatus, ranged};
 ghost use Rattle.definition.specs.Step.{ordered, refuses, step};
-ghost use Rattle.definition.specs.Step as rules;
 ghost use Rattle.definition.specs.Run.{begun, run};
 ghost use Rattle.definition.specs.Calls.{plain, given, answered, runDoor};
 ghost use Rattle.definition.specs.declared.Order.the-variants.{SetMode, Jump, StatusA, Increment, StatusC};
+ghost use Rattle.definition.specs.declared.Item.the-variants.{LongVector, AbsolutePoint};
 ghost use Rattle.definition.specs.declared.Instruction.the-variants.{Does, Draws};
 ghost use Rattle.items.specs.Goes.{told, stepped};
-ghost use Rattle.machine.specs.Rest.{rest};
+ghost use Rattle.machine.specs.Rest.{SetsWithin, rest, passedBy};
+
+const MOST: u32 = 1000000;
 
 // ---- orders
 fn set_mode(m: Machine, bits: ModeBits) -> Machine
@@ -40,14 +43,21 @@ fn set_mode(m: Machine, bits: ModeBits) -> Machine
     n
 }
 
-// The latch is loaded before a stop goes by it.
-fn status_a(m: Machine, bits: StopBits) -> Machine
-    ensures { λ r. ⌜ r ≡ ordered m (StatusA bits) ⌝ }
+fn load_latch(m: Machine, bits: StopBits) -> Machine
+    ensures { λ r. ⌜ r ≡ withLatch m (pick (bits .loads) (bits .latch) (m .latch)) ⌝ }
 {
     let mut n = m;
     if bits.loads {
         n.latch = bits.latch;
     }
+    n
+}
+
+// A stop goes by the latch as it stands after the load.
+fn status_a(m: Machine, bits: StopBits) -> Machine
+    ensures { λ r. ⌜ r ≡ ordered m (StatusA bits) ⌝ }
+{
+    let mut n = load_latch(m, bits);
     if bits.stops {
         n.status = if n.latch { 2 } else { 1 };
     }
@@ -99,7 +109,9 @@ fn jump(file: &[u16], m: Machine) -> Stepped
 }
 
 // An order of one word: the counter goes past it.
-fn passed(m: Machine) -> Stepped {
+fn passed(m: Machine) -> Stepped
+    ensures { λ r. ⌜ r ≡ passedBy m ⌝ }
+{
     let mut n = m;
     n.counter = items::next(m.counter);
     items::completed(n, 1, 0)
@@ -149,7 +161,7 @@ fn absolute_point(file: &[u16], m: Machine, image: &mut [u8], lit: bool, x: Unit
 }
 
 fn draws(file: &[u16], m: Machine, image: &mut [u8], lit: bool, item: Item) -> Stepped
-    requires { ⌜ (length (now image) ≡ imageBytes) × (ranged m ≡ true) × Read (Draws lit item) ⌝ }
+    requires { ⌜ (length (now image) ≡ imageBytes) × (ranged m ≡ true) × SetsWithin item ⌝ }
     ensures { λ r. ⌜ left r (now (image .exit)) ≡ stepped m (now (image .entry)) (rest (given (plain (now (file .entry)))) m (Draws lit item)) ⌝ }
 {
     match item {
@@ -217,7 +229,7 @@ pub fn run(file: &[u16], m: Machine, image: &mut [u8], budget: u32) -> Ran
 fn is_mode(mode: u8) -> bool
     ensures { λ r. ⌜ r ≡ isMode mode ⌝ }
 {
-    mode == NO_MODE || 1 <= mode && mode <= 6
+    mode == words::NO_MODE || 1 <= mode && mode <= 6
 }
 
 fn is_status(status: u8) -> bool
@@ -252,20 +264,22 @@ pub fn ranged(m: Machine) -> bool
 pub fn run_door(file: &[u16], m: Machine, image: &[u8], budget: u32) -> u8
     ensures { λ r. ⌜ r ≡ runDoor (plain (now (file .entry))) m (now (image .entry)) budget ⌝ }
 {
-    if image.len() != IMAGE_BYTES {
+    let wrong = file::check(file);
+    let sound = ranged(m);
+    let status = m.status;
+    if image.len() != image::BYTES {
         return 11;
     }
-    let shut = file::check(file);
-    if shut != 0 {
-        return shut;
+    if wrong != 0 {
+        return wrong;
     }
-    if !ranged(m) {
+    if !sound {
         return 16;
     }
     if MOST < budget {
         return 17;
     }
-    if m.status != 0 {
+    if status != 0 {
         return 28;
     }
     0

@@ -50,28 +50,39 @@ module _ (n : ℕ) (h : n < 65536) where
   unfolding move
   plus t = rw t (ap units size)
 
+-- ---- the range
+module _ (u : Units) (f : SFits w32 (u .0)) where
+  pub widens : SFits w64 (rd w32 (u .0))
+  widens = rw (toZ-ofZ f) (wide f)
+
+  widened : rd w64 (rd w32 (u .0)) ≡ u .0
+  widened = ap (rd w64) (toZ-ofZ f) ∙ toZ-ofZ (wide f)
+
+  pub below-range : ltZ (rd w64 (rd w32 (u .0))) (negsuc 4095) ≡ true → false ≡ inRange u
+  unfolding inRange
+  below-range t =
+      let l : leZ (negsuc 4095) (u .0) ≡ false = rw (← widened) (omega whole) in
+      rw l
+
+  pub not-below-range : ltZ (rd w64 (rd w32 (u .0))) (negsuc 4095) ≡ false → leZ (rd w64 (rd w32 (u .0))) (pos 4095) ≡ inRange u
+  unfolding inRange
+  not-below-range t =
+      let l : leZ (negsuc 4095) (u .0) ≡ true = rw (← widened) (omega whole) in
+      rw (l, widened)
+
 -- ---- the move
 module _ (u by : Units) (fu : SFits w32 (u .0)) (fb : SFits w32 (by .0)) where
-  pub first-fits : SFits w64 (rd w32 (u .0))
-  first-fits = rw (toZ-ofZ fu) (wide fu)
-
-  pub second-fits : SFits w64 (rd w32 (by .0))
-  second-fits = rw (toZ-ofZ fb) (wide fb)
-
   room-sum : SFits w64 (u .0 +ℤ by .0)
   room-sum = omega (whole, add (u .0) (by .0))
-
-  read : (z : ℤ) → SFits w32 z → rd w64 (rd w32 z) ≡ z
-  read z f = ap (rd w64) (toZ-ofZ f) ∙ toZ-ofZ (wide f)
 
   abbrev sum : ℤ
   sum = rd w64 (rd w64 (rd w32 (u .0)) +ℤ rd w64 (rd w32 (by .0)))
 
   pub sum-fits : SFits w64 (rd w64 (rd w32 (u .0)) +ℤ rd w64 (rd w32 (by .0)))
-  sum-fits = op-fits _+ℤ_ (read (u .0) fu) (read (by .0) fb) room-sum
+  sum-fits = op-fits _+ℤ_ (widened u fu) (widened by fb) room-sum
 
   sum-is : sum ≡ u .0 +ℤ by .0
-  sum-is = op-back _+ℤ_ (read (u .0) fu) (read (by .0) fb) room-sum
+  sum-is = op-back _+ℤ_ (widened u fu) (widened by fb) room-sum
 
   pub too-low : ltZ sum (negsuc 4095) ≡ true → Out ≡ movedTo u by
   unfolding movedTo inRange moved

@@ -6,6 +6,7 @@ ghost use mathlib.Core.Path.{_≡_};
 ghost use Rattle.definition.specs.Units.{pixelsOf};
 ghost use Rattle.definition.specs.Image.{square, pixelAt};
 ghost use Rattle.definition.specs.Words.{move};
+ghost use Rattle.definition.specs.Machine.{inRange};
 ghost use Rattle.units.specs.Answers.{movedTo, indexIn};
 
 // Where a move leads, or that it leads out of the range.
@@ -49,6 +50,16 @@ pub fn move_of(minus: bool, size: u16) -> Units
         return Units(negative);
     }
     Units(n)
+}
+
+pub fn in_range(u: Units) -> bool
+    ensures { λ r. ⌜ r ≡ inRange u ⌝ }
+{
+    let n = u.0 as i64;
+    if n < LOWEST {
+        return false;
+    }
+    n <= HIGHEST
 }
 
 // The sum is taken in 64 bits, where it fits whatever the two are.

@@ -1,14 +1,21 @@
--- Every position in range has a pixel that the drawing takes.
-use mathlib.Core.Bool.{true}
-use mathlib.Core.Path.{_≡_}
+-- Every position in range has a pixel that the drawing takes; and between two such pixels a vector is short.
+use Prim.Native.Nat.{ℕ, zero, suc, _≤_}
+use mathlib.Core.Bool.{Bool, true, false}
+use mathlib.Core.Path.{_≡_, refl, _∙_}
+use mathlib.Core.List.{[], _∷_}
 use native.Mathlib.Omega.{arith}
+use lib.Dec.{eqb}
+use lib.ListN.{length, length-append}
 use lib.IntN.{pos, negsuc}
 use lib.Signed.{leZ}
-use Rattle.whole.specs.Parts.{whole, floor}
+use Rattle.whole.specs.Parts.{whole, sub, abs, floor}
+use Rattle.definition.specs.Choice.{pick}
 use Rattle.definition.specs.Units.{pixelsOf}
 use Rattle.definition.specs.Image.{square, pixelAt}
+use Rattle.definition.specs.Vector.{apartX, apartY, longer, nth, numbered, vector}
 use Rattle.definition.specs.Machine.{inRange}
 use Rattle.definition.specs.declared.Units.{Units}
+use Rattle.definition.specs.declared.Pixel.{Pixel}
 use Rattle.definition.proofs.Plain.{both-true}
 use Rattle.vector.specs.Raised.{Reached, Reaches}
 
@@ -22,3 +29,20 @@ reached u e =
 pub reaches : (x y : Units) → inRange x ≡ true → inRange y ≡ true → Reaches (pixelAt square x y)
 unfolding pixelAt
 reaches x y ex ey = record { x = reached x ex; y = reached y ey }
+
+numbered-length : (f : ℕ → Pixel) (k : ℕ) → length (numbered f k) ≡ k
+unfolding numbered
+numbered-length f zero = refl
+numbered-length f (suc k) = length-append (numbered f k) (f k ∷ []) ∙ (let e = numbered-length f k in omega arith)
+
+longer-short : (a b : Pixel) → Reaches a → Reaches b → longer a b ≤ 4095
+unfolding longer
+longer-short a b ha hb = omega (whole, sub (b .x .0) (a .x .0), abs (apartX a b), sub (b .y .0) (a .y .0), abs (apartY a b))
+
+pub vector-short : (a b : Pixel) → Reaches a → Reaches b → length (vector a b) ≤ 4096
+unfolding vector
+vector-short a b ha hb = go (eqb (longer a b) 0)
+  where
+    go : (t : Bool) → length (pick t (a ∷ []) (numbered (nth a b) (suc (longer a b)))) ≤ 4096
+    go true = omega arith
+    go false = omega (arith, numbered-length (nth a b) (suc (longer a b)), longer-short a b ha hb)

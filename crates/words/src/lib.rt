@@ -11,7 +11,7 @@ ghost use mathlib.Core.Path.{_≡_};
 ghost use Rattle.definition.specs.Choice.{firstOf};
 ghost use Rattle.definition.specs.Words.{setsMode, notBuilt, order, item, decode, shortX, shortY, long, coordinate, firstRefusals, secondRefusals};
 
-const NO_MODE: u8 = 255;
+pub const NO_MODE: u8 = 255;
 
 pub fn decode(mode: u8, word: u16) -> Instruction
     ensures { λ r. ⌜ r ≡ decode mode word ⌝ }

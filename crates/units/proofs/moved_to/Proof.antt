@@ -1,6 +1,6 @@
 use mir.Syntax.{w32}
 use mir.Val.{SFits}
-use Rattle.units.proofs.UnitLaws.{first-fits, second-fits, sum-fits, too-low, too-high, sum-narrow, in-range}
+use Rattle.units.proofs.UnitLaws.{widens, sum-fits, too-low, too-high, sum-narrow, in-range}
 use Rattle.units.proofs.moved_to.Statement.{statement}
 use Rattle.units.proofs.moved_to.Tie as tie
 
@@ -12,10 +12,10 @@ fits-by : (c : tie.After-struct-told2) → SFits w32 (c .before .before .before 
 fits-by c = record { sfits = c .struct-told2 .given .0 .1 }
 
 cast-from : tie.Need-cast-from
-cast-from c = first-fits _ _ (fits-u c) (fits-u c)
+cast-from c = widens _ (fits-u c)
 
 cast-distance : tie.Need-cast-distance
-cast-distance c = second-fits _ _ (fits-u (c .before .before)) (fits-by c)
+cast-distance c = widens _ (fits-by c)
 
 add-sum : tie.Need-add-sum
 add-sum c = sum-fits _ _ (fits-u (c .before .before)) (fits-by c)

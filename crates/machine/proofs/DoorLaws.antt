@@ -1,0 +1,133 @@
+-- The doors of a run: the ranges of a machine's fields test by test, the answer at each door, and what an answer of 0 says.
+use Prim.Native.Nat.{ℕ, _<_, _≤_}
+use mathlib.Core.Bool.{Bool, true, false, not}
+use mathlib.Core.List.{List, [], _∷_, _++_}
+use mathlib.Core.Path.{_≡_, refl, sym, _∙_}
+use native.Mathlib.Omega.{arith}
+use lib.Dec.{eqb, leb}
+use lib.ListN.{length}
+use borrow.Author.Tests.{lt-ltb, le-ltb, ltb-false, le-leb, lt-leb, eq-eqb, ne-eqb, eqb-true, not-true, not-false}
+use Rattle.definition.specs.Choice.{Test, firstOf, joined}
+use Rattle.definition.specs.Image.{imageBytes}
+use Rattle.definition.specs.File.{fileDoors, headDoors, segmentDoors}
+use Rattle.definition.specs.Words.{none, setsMode}
+use Rattle.definition.specs.Machine.{inRange, isMode, isStatus, ranged, machineDoors}
+use Rattle.definition.specs.Calls.{imageDoors, budgetDoors, runningDoors, plain, checkCall, runDoors, runDoor}
+use Rattle.definition.specs.declared.Machine.{Machine}
+use Rattle.definition.proofs.Exactly.{passes, stops, Fails, fails}
+
+-- ---- the mode and the status
+module _ (k : ℕ) where
+  pub no-mode : k ≡ none → eqb k none ≡ isMode k
+  unfolding isMode
+  no-mode e = rw (eq-eqb _ _ e)
+
+  pub some-mode : (k ≡ none → ⊥) → {t : Bool} → t ≡ setsMode k → t ≡ isMode k
+  unfolding isMode
+  some-mode n e = rw (ne-eqb _ _ n) e
+
+module _ (s : ℕ) where
+  pub not-refused : s ≤ 2 → leb s 2 ≡ isStatus s
+  unfolding isStatus
+  not-refused h = rw (le-leb _ _ h)
+
+  module _ (over : 2 < s) where
+    pub from-21 : 21 ≤ s → leb s 27 ≡ isStatus s
+    unfolding isStatus
+    from-21 h = rw (lt-leb _ _ over, le-leb _ _ h)
+
+    pub below-21 : s < 21 → leb 21 s ≡ isStatus s
+    unfolding isStatus
+    below-21 h = rw (lt-leb _ _ over, lt-leb _ _ h)
+
+-- ---- the ranges, field by field
+-- what a test that a function answers, asked in an `if !`, tells of its definition
+module _ {t s : Bool} (e : t ≡ s) where
+  pub failed : not t ≡ true → s ≡ false
+  failed h = sym e ∙ not-true t h
+
+  pub held : not t ≡ false → s ≡ true
+  held h = sym e ∙ not-false t h
+
+module _ (m : Machine) where
+  pub x-out : inRange (m .x) ≡ false → false ≡ ranged m
+  unfolding ranged
+  x-out e = rw e
+
+  pub y-out : inRange (m .x) ≡ true → inRange (m .y) ≡ false → false ≡ ranged m
+  unfolding ranged
+  y-out x e = rw (x, e)
+
+  pub mode-out : inRange (m .x) ≡ true → inRange (m .y) ≡ true → isMode (m .mode) ≡ false → false ≡ ranged m
+  unfolding ranged
+  mode-out x y e = rw (x, y, e)
+
+  -- the three that other functions test
+  abbrev pub Tested : Type 0
+  Tested = (inRange (m .x) ≡ true) × (inRange (m .y) ≡ true) × (isMode (m .mode) ≡ true)
+
+  module _ (t : Tested) where
+    pub value-out : 3 < m .value → false ≡ ranged m
+    unfolding ranged
+    value-out p = rw (t .0, t .1, t .2, le-ltb (m .value) 4 (omega arith))
+
+    module _ (v : m .value ≤ 3) where
+      pub increment-out : 63 < m .increment → false ≡ ranged m
+      unfolding ranged
+      increment-out p = rw (t .0, t .1, t .2, lt-ltb (m .value) 4 (omega arith), lt-leb _ _ p)
+
+      pub by-status : m .increment ≤ 63 → {s : Bool} → s ≡ isStatus (m .status) → s ≡ ranged m
+      unfolding ranged
+      by-status p e = rw (t .0, t .1, t .2, lt-ltb (m .value) 4 (omega arith), le-leb _ _ p) e
+
+-- ---- the doors
+-- those after the file's
+abbrev pub later : Machine → ℕ → List Test
+later m b = joined (machineDoors m ∷ budgetDoors b ∷ runningDoors m ∷ [])
+
+module _ (f : List ℕ) (m : Machine) (im : List ℕ) (b : ℕ) where
+  pub image-shut : (length im ≡ imageBytes → ⊥) → 11 ≡ runDoor (plain f) m im b
+  unfolding runDoor runDoors firstOf imageDoors
+  image-shut p = rw (ne-eqb _ _ p)
+
+  abbrev pub Past-the-file : Type 0
+  Past-the-file = runDoor (plain f) m im b ≡ firstOf (later m b)
+
+  module _ (whole : length im ≡ imageBytes) {n : ℕ} (en : n ≡ checkCall f) where
+    at-the-file : runDoor (plain f) m im b ≡ firstOf (fileDoors f ++ later m b)
+    unfolding runDoor runDoors firstOf imageDoors
+    at-the-file = rw (eq-eqb _ _ whole)
+
+    pub file-shut : (n ≡ 0 → ⊥) → n ≡ runDoor (plain f) m im b
+    unfolding checkCall
+    file-shut p = en ∙ sym (at-the-file ∙ stops (fileDoors f) (later m b) (λ z. p (en ∙ z)))
+
+    pub file-passed : n ≡ 0 → Past-the-file
+    unfolding checkCall fileDoors headDoors segmentDoors
+    file-passed z = at-the-file ∙ passes (fileDoors f) (later m b) refl (sym en ∙ z)
+
+  module _ (past : Past-the-file) where
+    pub machine-shut : ranged m ≡ false → 16 ≡ runDoor (plain f) m im b
+    unfolding firstOf machineDoors
+    machine-shut e = rw (past, e)
+
+    module _ (in-range : ranged m ≡ true) where
+      pub budget-shut : 1000000 < b → 17 ≡ runDoor (plain f) m im b
+      unfolding firstOf machineDoors budgetDoors
+      budget-shut p = rw (past, in-range, lt-ltb _ _ p)
+
+      module _ (paid : b ≤ 1000000) where
+        pub not-running : (m .status ≡ 0 → ⊥) → 28 ≡ runDoor (plain f) m im b
+        unfolding firstOf machineDoors budgetDoors runningDoors
+        not-running p = rw (past, in-range, le-ltb _ _ paid, ne-eqb _ _ p)
+
+        pub all-open : m .status ≡ 0 → 0 ≡ runDoor (plain f) m im b
+        unfolding firstOf machineDoors budgetDoors runningDoors
+        all-open p = rw (past, in-range, le-ltb _ _ paid, eq-eqb _ _ p)
+
+  -- what a run may take for granted
+  pub opened : runDoor (plain f) m im b ≡ 0 → (length im ≡ imageBytes) × (ranged m ≡ true) × (b ≤ 1000000) × (m .status ≡ 0)
+  unfolding runDoor runDoors imageDoors fileDoors headDoors segmentDoors machineDoors budgetDoors runningDoors
+  opened z =
+      let passed : (n : ℕ) → Fails n (runDoors (plain f) m im b) = λ n. fails n (runDoors (plain f) m im b) refl z in
+      (eqb-true _ _ (not-false _ (passed 11)), not-false _ (passed 16), ltb-false _ _ (passed 17), eqb-true _ _ (not-false _ (passed 28)))

@@ -1,0 +1,3 @@
+pub mod StepLaws
+pub mod RunLaws
+pub mod DoorLaws

@@ -1,0 +1,260 @@
+-- The cases of a step, a law for each: what the fetches and the words were, and the definition's step.
+use Prim.Native.Nat.{ℕ}
+use mathlib.Core.Bool.{Bool, true, false, _||_}
+use mathlib.Core.List.{List, [], _++_}
+use mathlib.Core.Path.{_≡_, refl, sym, ap, subst, _∙_}
+use native.Mathlib.Omega.{arith}
+use lib.Dec.{eqb}
+use lib.IntN.{pos, negsuc}
+use lib.Signed.{leZ, _≤ℤ_}
+use borrow.Author.Tests.{ne-eqb}
+use Rattle.whole.specs.Parts.{whole}
+use Rattle.definition.specs.Choice.{pick, firstOf, onlyIf}
+use Rattle.definition.specs.Image.{left, stores}
+use Rattle.definition.specs.File.{wordIn, numberOf, numberIn, fetchRefusals}
+use Rattle.definition.specs.Words.{bit, bits, long, coordinate, item, decode, jumps, paired, hasSecond, firstRefusals, secondRefusals}
+use Rattle.definition.specs.Machine.{withCounter, withLatch, withStatus, inRange}
+use Rattle.definition.specs.Step.{way, pointAt, vectorBy, leaves, itemWay, itemPixels, stopping, ordered, done, Given, first, second, wayRefusals, refusals, refusal, Step, completes, refuses, step}
+use Rattle.definition.specs.Step.Change.{Set, Move}
+use Rattle.definition.specs.declared.Units.{Units}
+use Rattle.definition.specs.declared.Machine.{Machine}
+use Rattle.definition.specs.declared.Unfetched.{Unfetched}
+use Rattle.definition.specs.declared.Unfetched.the-variants.{Odd, NoSegment, NoPlace}
+use Rattle.definition.specs.declared.Fetched.{Fetched}
+use Rattle.definition.specs.declared.Fetched.the-variants.{Word, Refused}
+use Rattle.definition.specs.declared.StopBits.{StopBits}
+use Rattle.definition.specs.declared.Order.{Order}
+use Rattle.definition.specs.declared.Order.the-variants.{SetMode, Jump, NoOp, StatusA, Increment, StatusC}
+use Rattle.definition.specs.declared.Item.{Item}
+use Rattle.definition.specs.declared.Item.the-variants.{LongVector, AbsolutePoint}
+use Rattle.definition.specs.declared.Instruction.{Instruction}
+use Rattle.definition.specs.declared.Instruction.the-variants.{Does, Draws}
+use Rattle.definition.proofs.Exactly.{apart, passes, stops}
+use Rattle.definition.proofs.Plain.{both-true, is-mostZ}
+use Rattle.definition.proofs.StepLaws.{pick-keeps}
+use Rattle.items.specs.Goes.{told, stepped, kept, goes}
+use Rattle.items.specs.declared.Stepped.{Stepped}
+use Rattle.machine.specs.Rest.{SetsWithin, restRefusals, rest, passedBy}
+
+-- a step that lights no pixel leaves the image
+dark : (m : Machine) (im : List ℕ) {t s : Step} {r : Stepped} → t .pixels ≡ [] → r ≡ told t → t ≡ s → left r im ≡ stepped m im s
+unfolding stepped stores
+dark m im {t} {s} {r} n er e =
+    let z : s .pixels ≡ [] = ap (λ (u : Step). u .pixels) (sym e) ∙ n in
+    rw (er ∙ ap told e, z)
+
+-- ---- what a fetch is refused for
+fetch-number : (got : Fetched) → firstOf (fetchRefusals got) ≡ numberIn got
+unfolding firstOf fetchRefusals
+fetch-number (Word w) = refl
+fetch-number (Refused Odd) = refl
+fetch-number (Refused NoSegment) = refl
+fetch-number (Refused NoPlace) = refl
+
+some-number : (why : Unfetched) → numberOf why ≡ 0 → ⊥
+some-number Odd e = omega arith
+some-number NoSegment e = omega arith
+some-number NoPlace e = omega arith
+
+-- a fetch that was refused ends the step with its number
+pub ends : (m : Machine) {got : Fetched} {why : Unfetched} {n : ℕ} {r : Stepped} → got ≡ Refused why → n ≡ numberOf why → r ≡ told (refuses m n) → r ≡ told (refuses m (numberIn got))
+ends m e en er = rw (er, en, e)
+
+pub ends-not : (m : Machine) {got : Fetched} {w : ℕ} {r : Stepped} → got ≡ Word w → r ≡ told (refuses m 0) → r ≡ told (refuses m (numberIn got))
+ends-not m e er = rw (er, e)
+
+module _ (g : Given) (m : Machine) where
+  step-for : (n : ℕ) → refusal g m ≡ n → (n ≡ 0 → ⊥) → refuses m n ≡ step g m
+  unfolding step
+  step-for n e h = rw (e, ne-eqb n 0 h)
+
+  rest-for : (i : Instruction) (n : ℕ) → firstOf (restRefusals m i (second g m)) ≡ n → (n ≡ 0 → ⊥) → refuses m n ≡ rest g m i
+  unfolding rest
+  rest-for i n e h = rw (e, ne-eqb n 0 h)
+
+-- ---- items, once 27 is all that is left to ask
+by-27 : (m : Machine) (t : Bool) (s : Step) → pick t (refuses m 27) s ≡ pick (eqb (pick t 27 0) 0) s (refuses m (pick t 27 0))
+by-27 m true s = refl
+by-27 m false s = refl
+
+item-goes : (g : Given) (m : Machine) (lit : Bool) (it : Item)
+    → firstOf (restRefusals m (Draws lit it) (second g m)) ≡ firstOf (wayRefusals m (itemWay (m .increment) it (wordIn (second g m))))
+    → goes m lit (itemWay (m .increment) it (wordIn (second g m))) (itemPixels m it (wordIn (second g m))) (paired it) ≡ rest g m (Draws lit it)
+unfolding rest goes kept done wayRefusals firstOf
+item-goes g m lit it e =
+    rw e (
+    by-27 m (leaves (m .x) (itemWay (m .increment) it (wordIn (second g m)) .x) || leaves (m .y) (itemWay (m .increment) it (wordIn (second g m)) .y))
+    (completes m (Draws lit it) (wordIn (second g m)))
+    )
+
+one-word : (g : Given) (m : Machine) (lit : Bool) (it : Item) → paired it ≡ false
+    → goes m lit (itemWay (m .increment) it (wordIn (second g m))) (itemPixels m it (wordIn (second g m))) false ≡ rest g m (Draws lit it)
+unfolding restRefusals firstOf fetchRefusals secondRefusals wayRefusals
+one-word g m lit it p =
+    ap (goes m lit (itemWay (m .increment) it (wordIn (second g m))) (itemPixels m it (wordIn (second g m)))) (sym p)
+    ∙ item-goes g m lit it (rw p)
+
+module _ (g : Given) (m : Machine) (im : List ℕ) (lit : Bool) (it : Item) {it′ : Item} (e : it ≡ it′) {r : Stepped} {im′ : List ℕ} where
+  pub one-done : paired it′ ≡ false
+      → left r im′ ≡ stepped m im (goes m lit (itemWay (m .increment) it′ (wordIn (second g m))) (itemPixels m it′ (wordIn (second g m))) false)
+      → left r im′ ≡ stepped m im (rest g m (Draws lit it))
+  one-done p er = rw e (er ∙ ap (stepped m im) (one-word g m lit it′ p))
+
+  pub two-done : left r im′ ≡ stepped m im (rest g m (Draws lit it′)) → left r im′ ≡ stepped m im (rest g m (Draws lit it))
+  two-done er = rw e er
+
+-- ---- orders
+-- a stop by the latch as it is loaded
+module _ (m : Machine) (b : StopBits) {n : Machine} (en : n ≡ withLatch m (pick (b .loads) (b .latch) (m .latch))) where
+  by-latch : {k : ℕ} → withStatus n k ≡ stopping (b .stops) n → withStatus n k ≡ ordered m (StatusA b)
+  unfolding ordered
+  by-latch e = e ∙ ap (stopping (b .stops)) en
+
+  pub stops-2 : b .stops ≡ true → n .latch ≡ true → withStatus n 2 ≡ ordered m (StatusA b)
+  stops-2 s l = by-latch (rw (s, l))
+
+  pub stops-1 : b .stops ≡ true → n .latch ≡ false → withStatus n 1 ≡ ordered m (StatusA b)
+  stops-1 s l = by-latch (rw (s, l))
+
+  pub no-stop : b .stops ≡ false → n ≡ ordered m (StatusA b)
+  no-stop s = by-latch (rw s)
+
+module _ (g : Given) (m : Machine) where
+  -- an order of one word is not refused
+  order-done : (o : Order) → jumps o ≡ false → {n : Machine} {r : Stepped} → n ≡ ordered m o → r ≡ passedBy n → r ≡ told (rest g m (Does o))
+  unfolding rest restRefusals firstOf fetchRefusals secondRefusals wayRefusals done ordered
+  order-done (SetMode b) j en er = rw (er, en)
+  order-done Jump j en er = absurd (apart j)
+  order-done NoOp j en er = rw (er, en)
+  order-done (StatusA b) j en er = rw (er, en)
+  order-done (Increment b) j en er = rw (er, en)
+  order-done (StatusC b) j en er = rw (er, en)
+
+  pub obeyed : (o : Order) {o′ : Order} → o ≡ o′ → jumps o′ ≡ false → {n : Machine} {r : Stepped} → n ≡ ordered m o′ → r ≡ passedBy n → r ≡ told (rest g m (Does o))
+  obeyed o {o′} e j en er = rw e (order-done o′ j en er)
+
+  pub obeyed-no-op : (o : Order) → o ≡ NoOp → {r : Stepped} → r ≡ passedBy m → r ≡ told (rest g m (Does o))
+  unfolding ordered
+  obeyed-no-op o e er = obeyed o e refl refl er
+
+  pub obeyed-jump : (o : Order) → o ≡ Jump → {r : Stepped} → r ≡ told (rest g m (Does Jump)) → r ≡ told (rest g m (Does o))
+  obeyed-jump o e er = rw e er
+
+  -- and none lights a pixel
+  order-dark : (o : Order) → rest g m (Does o) .pixels ≡ []
+  unfolding rest
+  order-dark o = pick-keeps (λ (t : Step). t .pixels ≡ []) (eqb (firstOf (restRefusals m (Does o) (second g m))) 0) (λ e. refl) (λ e. refl)
+
+  module _ {got : Fetched} (eg : got ≡ second g m) where
+    -- ---- the second word of a jump, or of a long vector or an absolute point
+    more-not-fetched : (i : Instruction) → hasSecond i ≡ true → {why : Unfetched} → got ≡ Refused why → refuses m (numberIn got) ≡ rest g m i
+    unfolding restRefusals fetchRefusals
+    more-not-fetched i h {why} e =
+        let n : firstOf (onlyIf (hasSecond i) (fetchRefusals (second g m))) ≡ numberIn got = rw h (ap (λ (f : Fetched). firstOf (fetchRefusals f)) (sym eg) ∙ fetch-number got) in
+        let z : numberIn got ≡ 0 → ⊥ = λ q. some-number why (sym (ap numberIn e) ∙ q) in
+        rest-for g m i (numberIn got) (stops (onlyIf (hasSecond i) (fetchRefusals (second g m))) _ (λ q. z (sym n ∙ q)) ∙ n) z
+
+    pub jump-ends : {why : Unfetched} → got ≡ Refused why → {r : Stepped} → r ≡ told (refuses m (numberIn got)) → r ≡ told (rest g m (Does Jump))
+    jump-ends e er = er ∙ ap told (more-not-fetched (Does Jump) refl e)
+
+    pub item-ends : (im : List ℕ) (lit : Bool) (it : Item) → paired it ≡ true → {why : Unfetched} → got ≡ Refused why
+        → {r : Stepped} → r ≡ told (refuses m (numberIn got)) → left r im ≡ stepped m im (rest g m (Draws lit it))
+    item-ends im lit it p e er = dark m im refl er (more-not-fetched (Draws lit it) p e)
+
+    module _ {v : ℕ} (e : got ≡ Word v) where
+      pub jump-done : {r : Stepped} → r ≡ record { machine = withCounter m v; counts = record { steps = 1; words = 2; stores = 0 } } → r ≡ told (rest g m (Does Jump))
+      unfolding rest restRefusals firstOf fetchRefusals secondRefusals wayRefusals done ordered
+      jump-done er = rw (← eg, e, er)
+
+      module _ (lit : Bool) (it : Item) (p : paired it ≡ true) {why : ℕ} (ew : why ≡ firstOf (secondRefusals v)) where
+        past-more : firstOf (restRefusals m (Draws lit it) (second g m)) ≡ firstOf (secondRefusals v ++ wayRefusals m (itemWay (m .increment) it v))
+        unfolding restRefusals firstOf fetchRefusals secondRefusals wayRefusals
+        past-more = rw (← eg, e, p)
+
+        pub second-refused : (im : List ℕ) → (why ≡ 0 → ⊥) → {r : Stepped} → r ≡ told (refuses m why) → left r im ≡ stepped m im (rest g m (Draws lit it))
+        second-refused im h er = dark m im refl er (rest-for g m (Draws lit it) why (past-more ∙ stops (secondRefusals v) _ (λ q. h (ew ∙ q)) ∙ sym ew) h)
+
+        two-words : why ≡ 0 → goes m lit (itemWay (m .increment) it v) (itemPixels m it v) true ≡ rest g m (Draws lit it)
+        unfolding secondRefusals
+        two-words z =
+            let w : wordIn (second g m) ≡ v = ap wordIn (sym eg ∙ e) in
+            let h : firstOf (restRefusals m (Draws lit it) (second g m)) ≡ firstOf (wayRefusals m (itemWay (m .increment) it v)) = past-more ∙ passes (secondRefusals v) _ refl (sym ew ∙ z) in
+            rw (← w, ← p) (item-goes g m lit it (rw w h))
+
+      module _ (im : List ℕ) (lit : Bool) {why : ℕ} (ew : why ≡ firstOf (secondRefusals v)) (z : why ≡ 0) {r : Stepped} {im′ : List ℕ} {u : Units} where
+        pub long-done : (dx : Units) → u ≡ long v → left r im′ ≡ stepped m im (goes m lit (way (Move dx) (Move u)) (vectorBy m dx u) true)
+            → left r im′ ≡ stepped m im (rest g m (Draws lit (LongVector dx)))
+        long-done dx eu er =
+            er
+            ∙ ap (λ (d : Units). stepped m im (goes m lit (way (Move dx) (Move d)) (vectorBy m dx d) true)) eu
+            ∙ ap (stepped m im) (two-words lit (LongVector dx) refl ew z)
+
+        pub absolute-done : (x : Units) → u ≡ coordinate v → left r im′ ≡ stepped m im (goes m lit (way (Set x) (Set u)) (pointAt m x u) true)
+            → left r im′ ≡ stepped m im (rest g m (Draws lit (AbsolutePoint x)))
+        absolute-done x eu er =
+            er
+            ∙ ap (λ (y : Units). stepped m im (goes m lit (way (Set x) (Set y)) (pointAt m x y) true)) eu
+            ∙ ap (stepped m im) (two-words lit (AbsolutePoint x) refl ew z)
+
+-- ---- a coordinate that is set is in range
+pub coordinate-in : (w : ℕ) → inRange (coordinate w) ≡ true
+unfolding inRange
+coordinate-in w = both-true {s = leZ (negsuc 4095) (pos (bits 9 0 w))} .1 (refl, is-mostZ .1 (within w))
+  where
+    within : (w : ℕ) → pos (bits 9 0 w) ≤ℤ pos 4095
+    within w = omega whole
+
+item-sets : (mode w : ℕ) → SetsWithin (item mode w)
+unfolding item
+item-sets mode w =
+    pick-keeps SetsWithin (eqb mode 1) (λ e. tt)
+    λ a. pick-keeps SetsWithin (eqb mode 2) (λ e. tt)
+    λ b. pick-keeps SetsWithin (eqb mode 3) (λ e. coordinate-in w)
+    λ c. pick-keeps SetsWithin (eqb mode 4) (λ e. coordinate-in w)
+    λ d. pick-keeps SetsWithin (eqb mode 5) (λ e. coordinate-in w) (λ e. tt)
+
+pub decode-sets : (mode w : ℕ) {i : Instruction} {lit : Bool} {it : Item} → i ≡ decode mode w → i ≡ Draws lit it → SetsWithin it
+unfolding decode
+decode-sets mode w ei e = subst P (sym ei ∙ e) (pick-keeps P (bit 15 w) (λ e. tt) (λ e. item-sets mode w))
+  where
+    P : Instruction → Type 0
+    P (Does o) = Unit {0}
+    P (Draws lit it) = SetsWithin it
+
+-- ---- the step, from its first word on
+module _ (g : Given) (m : Machine) {got : Fetched} (eg : got ≡ first g m) where
+  pub not-fetched : (im : List ℕ) {why : Unfetched} → got ≡ Refused why → {r : Stepped} → r ≡ told (refuses m (numberIn got)) → left r im ≡ stepped m im (step g m)
+  unfolding refusal refusals
+  not-fetched im {why} e er =
+      let h : firstOf (fetchRefusals (first g m)) ≡ numberIn got = ap (λ (f : Fetched). firstOf (fetchRefusals f)) (sym eg) ∙ fetch-number got in
+      let z : numberIn got ≡ 0 → ⊥ = λ q. some-number why (sym (ap numberIn e) ∙ q) in
+      dark m im refl er (step-for g m (numberIn got) (stops (fetchRefusals (first g m)) _ (λ q. z (sym h ∙ q)) ∙ h) z)
+
+  module _ {w : ℕ} (e : got ≡ Word w) {why : ℕ} (ew : why ≡ firstOf (firstRefusals (m .mode) w)) where
+    is-word : wordIn (first g m) ≡ w
+    is-word = ap wordIn (sym eg ∙ e)
+
+    past-fetch : refusal g m ≡ firstOf (firstRefusals (m .mode) w ++ restRefusals m (decode (m .mode) w) (second g m))
+    unfolding refusal refusals restRefusals fetchRefusals
+    past-fetch =
+        passes (fetchRefusals (first g m)) _ refl (ap (λ (f : Fetched). firstOf (fetchRefusals f)) (sym eg ∙ e) ∙ fetch-number (Word w))
+        ∙ ap (λ (v : ℕ). firstOf (firstRefusals (m .mode) v ++ restRefusals m (decode (m .mode) v) (second g m))) is-word
+
+    pub word-refused : (im : List ℕ) → (why ≡ 0 → ⊥) → {r : Stepped} → r ≡ told (refuses m why) → left r im ≡ stepped m im (step g m)
+    word-refused im h er = dark m im refl er (step-for g m why (past-fetch ∙ stops (firstRefusals (m .mode) w) _ (λ q. h (ew ∙ q)) ∙ sym ew) h)
+
+    word-taken : why ≡ 0 → rest g m (decode (m .mode) w) ≡ step g m
+    unfolding step rest firstRefusals
+    word-taken z =
+        let r : refusal g m ≡ firstOf (restRefusals m (decode (m .mode) w) (second g m)) = past-fetch ∙ passes (firstRefusals (m .mode) w) _ refl (sym ew ∙ z) in
+        rw (r, is-word)
+
+    module _ (z : why ≡ 0) {i : Instruction} (ei : i ≡ decode (m .mode) w) (im : List ℕ) where
+      taken : {i′ : Instruction} → i ≡ i′ → rest g m i′ ≡ step g m
+      taken e′ = ap (rest g m) (sym e′ ∙ ei) ∙ word-taken z
+
+      pub done-order : {o : Order} → i ≡ Does o → {r : Stepped} → r ≡ told (rest g m (Does o)) → left r im ≡ stepped m im (step g m)
+      done-order {o} e′ er = dark m im (order-dark g m o) er (taken e′)
+
+      pub done-item : {lit : Bool} {it : Item} → i ≡ Draws lit it → {r : Stepped} {im′ : List ℕ} → left r im′ ≡ stepped m im (rest g m (Draws lit it)) → left r im′ ≡ stepped m im (step g m)
+      done-item e′ er = er ∙ ap (stepped m im) (taken e′)

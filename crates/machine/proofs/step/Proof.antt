@@ -1,0 +1,85 @@
+use borrow.Author.Needs.{needs}
+use Rattle.definition.specs.Calls.{plain, given}
+use Rattle.machine.proofs.StepLaws.{not-fetched, word-refused, done-order, done-item, decode-sets}
+use Rattle.machine.proofs.step.Statement.{statement}
+use Rattle.machine.proofs.step.Tie as tie
+
+fetch-requires : tie.Need-fetch-requires
+fetch-requires c κs = search needs
+
+enum-known-got : tie.Need-enum-known-got
+enum-known-got c = search needs
+
+enum-told : tie.Need-enum-told
+enum-told c = search needs
+
+unfetched-requires : tie.Need-unfetched-requires
+unfetched-requires c κs = search needs
+
+returns : tie.Need-returns
+returns c = not-fetched (given (plain _)) _ (c .before .before .before .fetch .ensures) _ (c .before .enum-told .given .1) (c .unfetched .ensures)
+
+first-refusal-requires : tie.Need-first-refusal-requires
+first-refusal-requires c κs = search needs
+
+refused-requires : tie.Need-refused-requires
+refused-requires c κs = search needs
+
+returns-2 : tie.Need-returns-2
+returns-2 c =
+    let w = c .before .before .before .before in
+    word-refused (given (plain _)) _ (w .before .before .fetch .ensures) (w .got .given .1) (c .before .before .first-refusal .ensures) _ (c .before .if1 .taken) (c .refused .ensures)
+
+decode-requires : tie.Need-decode-requires
+decode-requires c κs = search needs
+
+enum-known-order : tie.Need-enum-known-order
+enum-known-order c = search needs
+
+does-requires : tie.Need-does-requires
+does-requires c κs = search needs
+
+enum-known-lit : tie.Need-enum-known-lit
+enum-known-lit c = search needs
+
+draws-requires : tie.Need-draws-requires
+draws-requires c κs =
+    let d = c .before .before .before .before in
+    let h = d .before .before .before .before .before .before .before .before .before .pre in
+    (h .0, h .1, decode-sets _ _ (d .decode .ensures) (c .before .before .lit .given .1))
+
+returns-3 : tie.Need-returns-3
+returns-3 c =
+    let d = c .before .before .before .before in
+    let w = d .before .before .before .before in
+    done-order (given (plain _)) _ (w .before .before .fetch .ensures) (w .got .given .1) (d .before .before .first-refusal .ensures) (d .before .if1 .left) (d .decode .ensures) _ (c .before .before .order .given .1) (c .does .ensures)
+
+same-length : tie.Need-same-length
+same-length c = search needs
+
+returns-4 : tie.Need-returns-4
+returns-4 c =
+    let d = c .before .before .before .before .before .before .before in
+    let w = d .before .before .before .before in
+    done-item (given (plain _)) _ (w .before .before .fetch .ensures) (w .got .given .1) (d .before .before .first-refusal .ensures) (d .before .if1 .left) (d .decode .ensures) _ (c .before .before .before .before .before .lit .given .1) (c .before .before .draws .ensures)
+
+pub step-spec : {M : Type 1} → statement M
+step-spec =
+    tie.close
+    (tie.spec
+    fetch-requires
+    enum-known-got
+    enum-told
+    unfetched-requires
+    returns
+    first-refusal-requires
+    refused-requires
+    returns-2
+    decode-requires
+    enum-known-order
+    does-requires
+    enum-known-lit
+    draws-requires
+    returns-3
+    same-length
+    returns-4)
