@@ -13,8 +13,8 @@ use Rattle.definition.specs.Choice.{pick, firstOf, onlyIf}
 use Rattle.definition.specs.Image.{left, stores}
 use Rattle.definition.specs.File.{wordIn, numberOf, numberIn, fetchRefusals}
 use Rattle.definition.specs.Words.{bit, bits, long, coordinate, item, decode, jumps, paired, hasSecond, firstRefusals, secondRefusals}
-use Rattle.definition.specs.Machine.{withCounter, withLatch, withStatus, inRange}
-use Rattle.definition.specs.Step.{way, pointAt, vectorBy, leaves, itemWay, itemPixels, stopping, ordered, done, Given, first, second, wayRefusals, refusals, refusal, Step, completes, refuses, step}
+use Rattle.definition.specs.Machine.{withCounter, inRange}
+use Rattle.definition.specs.Step.{way, pointAt, vectorBy, leaves, itemWay, itemPixels, ordered, done, Given, first, second, wayRefusals, refusals, refusal, Step, completes, refuses, step}
 use Rattle.definition.specs.Step.Change.{Set, Move}
 use Rattle.definition.specs.declared.Units.{Units}
 use Rattle.definition.specs.declared.Machine.{Machine}
@@ -22,7 +22,6 @@ use Rattle.definition.specs.declared.Unfetched.{Unfetched}
 use Rattle.definition.specs.declared.Unfetched.the-variants.{Odd, NoSegment, NoPlace}
 use Rattle.definition.specs.declared.Fetched.{Fetched}
 use Rattle.definition.specs.declared.Fetched.the-variants.{Word, Refused}
-use Rattle.definition.specs.declared.StopBits.{StopBits}
 use Rattle.definition.specs.declared.Order.{Order}
 use Rattle.definition.specs.declared.Order.the-variants.{SetMode, Jump, NoOp, StatusA, Increment, StatusC}
 use Rattle.definition.specs.declared.Item.{Item}
@@ -104,21 +103,6 @@ module _ (g : Given) (m : Machine) (im : List ℕ) (lit : Bool) (it : Item) {it�
   two-done er = rw e er
 
 -- ---- orders
--- a stop by the latch as it is loaded
-module _ (m : Machine) (b : StopBits) {n : Machine} (en : n ≡ withLatch m (pick (b .loads) (b .latch) (m .latch))) where
-  by-latch : {k : ℕ} → withStatus n k ≡ stopping (b .stops) n → withStatus n k ≡ ordered m (StatusA b)
-  unfolding ordered
-  by-latch e = e ∙ ap (stopping (b .stops)) en
-
-  pub stops-2 : b .stops ≡ true → n .latch ≡ true → withStatus n 2 ≡ ordered m (StatusA b)
-  stops-2 s l = by-latch (rw (s, l))
-
-  pub stops-1 : b .stops ≡ true → n .latch ≡ false → withStatus n 1 ≡ ordered m (StatusA b)
-  stops-1 s l = by-latch (rw (s, l))
-
-  pub no-stop : b .stops ≡ false → n ≡ ordered m (StatusA b)
-  no-stop s = by-latch (rw s)
-
 module _ (g : Given) (m : Machine) where
   -- an order of one word is not refused
   order-done : (o : Order) → jumps o ≡ false → {n : Machine} {r : Stepped} → n ≡ ordered m o → r ≡ passedBy n → r ≡ told (rest g m (Does o))

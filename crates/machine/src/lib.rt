@@ -1,88 +1,28 @@
-// The machine: a step, a run of steps within a budget, and the doors that a call asks before it.
+// The machine: a step, and a run of steps within a budget.
 use definition::Counts;
 use definition::Fetched;
-use definition::IncrementBits;
 use definition::Instruction;
 use definition::Item;
 use definition::Machine;
-use definition::ModeBits;
 use definition::Order;
 use definition::Ran;
-use definition::StopBits;
 use definition::Units;
-use definition::WriteBits;
 use items::Stepped;
 ghost use mathlib.Core.Path.{_≡_};
 ghost use mathlib.Core.Bool.{true};
 ghost use Prim.Native.Nat.{_≤_};
 ghost use lib.ListN.{length};
-ghost use Rattle.definition.specs.Choice.{pick};
 ghost use Rattle.definition.specs.Image.{imageBytes, left};
 ghost use Rattle.definition.specs.File.{numberIn};
-ghost use Rattle.definition.specs.Machine.{withLatch, inRange, isMode, isStatus, ranged};
-ghost use Rattle.definition.specs.Step.{ordered, refuses, step};
+ghost use Rattle.definition.specs.Machine.{inRange, ranged};
+ghost use Rattle.definition.specs.Step.{refuses, step};
 ghost use Rattle.definition.specs.Run.{begun, run};
-ghost use Rattle.definition.specs.Calls.{plain, given, answered, runDoor};
-ghost use Rattle.definition.specs.declared.Order.the-variants.{SetMode, Jump, StatusA, Increment, StatusC};
+ghost use Rattle.definition.specs.Calls.{plain, given, answered};
+ghost use Rattle.definition.specs.declared.Order.the-variants.{Jump};
 ghost use Rattle.definition.specs.declared.Item.the-variants.{LongVector, AbsolutePoint};
 ghost use Rattle.definition.specs.declared.Instruction.the-variants.{Does, Draws};
 ghost use Rattle.items.specs.Goes.{told, stepped};
 ghost use Rattle.machine.specs.Rest.{SetsWithin, rest, passedBy};
-
-const MOST: u32 = 1000000;
-
-// ---- orders
-fn set_mode(m: Machine, bits: ModeBits) -> Machine
-    ensures { λ r. ⌜ r ≡ ordered m (SetMode bits) ⌝ }
-{
-    let mut n = m;
-    n.mode = bits.mode;
-    if bits.sets {
-        n.value = bits.value;
-    }
-    n
-}
-
-fn load_latch(m: Machine, bits: StopBits) -> Machine
-    ensures { λ r. ⌜ r ≡ withLatch m (pick (bits .loads) (bits .latch) (m .latch)) ⌝ }
-{
-    let mut n = m;
-    if bits.loads {
-        n.latch = bits.latch;
-    }
-    n
-}
-
-// A stop goes by the latch as it stands after the load.
-fn status_a(m: Machine, bits: StopBits) -> Machine
-    ensures { λ r. ⌜ r ≡ ordered m (StatusA bits) ⌝ }
-{
-    let mut n = load_latch(m, bits);
-    if bits.stops {
-        n.status = if n.latch { 2 } else { 1 };
-    }
-    n
-}
-
-fn set_increment(m: Machine, bits: IncrementBits) -> Machine
-    ensures { λ r. ⌜ r ≡ ordered m (Increment bits) ⌝ }
-{
-    let mut n = m;
-    if bits.sets {
-        n.increment = bits.increment;
-    }
-    n
-}
-
-fn status_c(m: Machine, bits: WriteBits) -> Machine
-    ensures { λ r. ⌜ r ≡ ordered m (StatusC bits) ⌝ }
-{
-    let mut n = m;
-    if bits.channel == 0 {
-        n.write = bits.write;
-    }
-    n
-}
 
 // ---- the step
 // A fetch that gave no word ends the step.
@@ -121,12 +61,12 @@ fn does(file: &[u16], m: Machine, order: Order) -> Stepped
     ensures { λ r. ⌜ r ≡ told (rest (given (plain (now (file .entry)))) m (Does order)) ⌝ }
 {
     match order {
-        Order::SetMode(bits) => passed(set_mode(m, bits)),
+        Order::SetMode(bits) => passed(orders::set_mode(m, bits)),
         Order::Jump => jump(file, m),
         Order::NoOp => passed(m),
-        Order::StatusA(bits) => passed(status_a(m, bits)),
-        Order::Increment(bits) => passed(set_increment(m, bits)),
-        Order::StatusC(bits) => passed(status_c(m, bits)),
+        Order::StatusA(bits) => passed(orders::status_a(m, bits)),
+        Order::Increment(bits) => passed(orders::set_increment(m, bits)),
+        Order::StatusC(bits) => passed(orders::status_c(m, bits)),
     }
 }
 
@@ -223,64 +163,4 @@ pub fn run(file: &[u16], m: Machine, image: &mut [u8], budget: u32) -> Ran
         },
         machine: here,
     }
-}
-
-// ---- the doors
-fn is_mode(mode: u8) -> bool
-    ensures { λ r. ⌜ r ≡ isMode mode ⌝ }
-{
-    mode == words::NO_MODE || 1 <= mode && mode <= 6
-}
-
-fn is_status(status: u8) -> bool
-    ensures { λ r. ⌜ r ≡ isStatus status ⌝ }
-{
-    status <= 2 || 21 <= status && status <= 27
-}
-
-// Every field is in its range, or else 16.
-pub fn ranged(m: Machine) -> bool
-    ensures { λ r. ⌜ r ≡ ranged m ⌝ }
-{
-    if !units::in_range(m.x) {
-        return false;
-    }
-    if !units::in_range(m.y) {
-        return false;
-    }
-    if !is_mode(m.mode) {
-        return false;
-    }
-    if 3 < m.value {
-        return false;
-    }
-    if 63 < m.increment {
-        return false;
-    }
-    is_status(m.status)
-}
-
-// In this order: 11, 12 to 15, 16, 17, 28; or 0.
-pub fn run_door(file: &[u16], m: Machine, image: &[u8], budget: u32) -> u8
-    ensures { λ r. ⌜ r ≡ runDoor (plain (now (file .entry))) m (now (image .entry)) budget ⌝ }
-{
-    let wrong = file::check(file);
-    let sound = ranged(m);
-    let status = m.status;
-    if image.len() != image::BYTES {
-        return 11;
-    }
-    if wrong != 0 {
-        return wrong;
-    }
-    if !sound {
-        return 16;
-    }
-    if MOST < budget {
-        return 17;
-    }
-    if status != 0 {
-        return 28;
-    }
-    0
 }

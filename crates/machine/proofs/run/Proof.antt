@@ -52,8 +52,7 @@ loop-again c =
     let s = c .before .before .before .before .before .before in
     let l = s .before .before .before .before .before in
     let k = few s in
-    let turn = run-next (given (plain _)) _ _ (s .step .ensures) (l .loop .left) (l .loop .steps) (l .loop .words) (l .loop .stores) (s .before .before .before .before .loop-test .taken) (s .before .before .if1 .left) in
-    (
+    let turn = run-next (given (plain _)) _ _ (s .step .ensures) (l .loop .left) (l .loop .steps) (l .loop .words) (l .loop .stores) (s .before .before .before .before .loop-test .taken) (s .before .before .if1 .left) in (
       s .step .kept .1 .1 .0 ∙ l .loop .inv .0,
       step-in-range (given (plain _)) _ _ (s .step .ensures) (l .loop .inv .1),
       omega arith,

@@ -1,7 +1,7 @@
 use borrow.Author.Tests.{eq-eqb, ne-eqb}
 use Rattle.definition.specs.Step.{ordered}
-use Rattle.machine.proofs.status_c.Statement.{statement}
-use Rattle.machine.proofs.status_c.Tie as tie
+use Rattle.orders.proofs.status_c.Statement.{statement}
+use Rattle.orders.proofs.status_c.Tie as tie
 
 returns : tie.Need-returns
 unfolding ordered

@@ -1,7 +1,7 @@
 use borrow.Author.Needs.{needs}
-use Rattle.machine.proofs.StepLaws.{stops-2, stops-1, no-stop}
-use Rattle.machine.proofs.status_a.Statement.{statement}
-use Rattle.machine.proofs.status_a.Tie as tie
+use Rattle.orders.proofs.OrderLaws.{stops-2, stops-1, no-stop}
+use Rattle.orders.proofs.status_a.Statement.{statement}
+use Rattle.orders.proofs.status_a.Tie as tie
 
 load-latch-requires : tie.Need-load-latch-requires
 load-latch-requires c κs = search needs

@@ -1,6 +1,6 @@
-use Rattle.machine.proofs.DoorLaws.{not-refused, from-21, below-21}
-use Rattle.machine.proofs.is_status.Statement.{statement}
-use Rattle.machine.proofs.is_status.Tie as tie
+use Rattle.doors.proofs.DoorLaws.{not-refused, from-21, below-21}
+use Rattle.doors.proofs.is_status.Statement.{statement}
+use Rattle.doors.proofs.is_status.Tie as tie
 
 returns : tie.Need-returns
 returns c = not-refused _ (c .if1 .taken)

@@ -2,9 +2,9 @@ use mathlib.Core.Bool.{true}
 use mathlib.Core.Path.{_≡_}
 use borrow.Author.Needs.{needs}
 use Rattle.definition.specs.Machine.{ranged}
-use Rattle.machine.proofs.DoorLaws.{failed, held, image-shut, file-shut, Past-the-file, file-passed, machine-shut, budget-shut, not-running, all-open}
-use Rattle.machine.proofs.run_door.Statement.{statement}
-use Rattle.machine.proofs.run_door.Tie as tie
+use Rattle.doors.proofs.DoorLaws.{failed, held, image-shut, file-shut, Past-the-file, file-passed, machine-shut, budget-shut, not-running, all-open}
+use Rattle.doors.proofs.run_door.Statement.{statement}
+use Rattle.doors.proofs.run_door.Tie as tie
 
 check-requires : tie.Need-check-requires
 check-requires c κs = search needs

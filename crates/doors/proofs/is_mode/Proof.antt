@@ -1,7 +1,7 @@
 use Rattle.words.proofs.WordLaws.{from-1, below-1}
-use Rattle.machine.proofs.DoorLaws.{no-mode, some-mode}
-use Rattle.machine.proofs.is_mode.Statement.{statement}
-use Rattle.machine.proofs.is_mode.Tie as tie
+use Rattle.doors.proofs.DoorLaws.{no-mode, some-mode}
+use Rattle.doors.proofs.is_mode.Statement.{statement}
+use Rattle.doors.proofs.is_mode.Tie as tie
 
 returns : tie.Need-returns
 returns c = no-mode _ (c .if1 .taken)

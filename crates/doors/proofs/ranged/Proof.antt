@@ -1,7 +1,7 @@
 use borrow.Author.Needs.{needs}
-use Rattle.machine.proofs.DoorLaws.{failed, held, x-out, y-out, mode-out, Tested, value-out, increment-out, by-status}
-use Rattle.machine.proofs.ranged.Statement.{statement}
-use Rattle.machine.proofs.ranged.Tie as tie
+use Rattle.doors.proofs.DoorLaws.{failed, held, x-out, y-out, mode-out, Tested, value-out, increment-out, by-status}
+use Rattle.doors.proofs.ranged.Statement.{statement}
+use Rattle.doors.proofs.ranged.Tie as tie
 
 in-range-requires : tie.Need-in-range-requires
 in-range-requires c κs = search needs

@@ -1,5 +1,5 @@
-use Rattle.machine.proofs.load_latch.Statement.{statement}
-use Rattle.machine.proofs.load_latch.Tie as tie
+use Rattle.orders.proofs.load_latch.Statement.{statement}
+use Rattle.orders.proofs.load_latch.Tie as tie
 
 returns : tie.Need-returns
 returns c = rw (c .if1 .taken)

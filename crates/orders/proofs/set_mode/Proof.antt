@@ -1,6 +1,6 @@
 use Rattle.definition.specs.Step.{ordered}
-use Rattle.machine.proofs.set_mode.Statement.{statement}
-use Rattle.machine.proofs.set_mode.Tie as tie
+use Rattle.orders.proofs.set_mode.Statement.{statement}
+use Rattle.orders.proofs.set_mode.Tie as tie
 
 returns : tie.Need-returns
 unfolding ordered
