@@ -7,7 +7,8 @@ use definition::Read;
 use definition::Started;
 use definition::Units;
 use units::Index;
-ghost use Rattle.definition.specs.Calls.{plain, turnedAway};
+ghost use mathlib.Core.Path.{_≡_};
+ghost use Rattle.definition.specs.Calls.{plain};
 ghost use Rattle.definition.specs.Promises.{Promise-check, Promise-fresh, Promise-start, Promise-run, Promise-step, Promise-clear, Promise-read};
 
 pub fn check(file: &[u16]) -> u8
@@ -23,7 +24,7 @@ pub fn fresh() -> Machine
         counter: 0,
         x: Units(0),
         y: Units(0),
-        mode: NO_MODE,
+        mode: words::NO_MODE,
         value: 3,
         write: true,
         latch: false,
@@ -36,7 +37,7 @@ pub fn fresh() -> Machine
 pub fn start(m: Machine, address: u16) -> Started
     ensures { λ r. ⌜ Promise-start m address r ⌝ }
 {
-    if !machine::ranged(m) {
+    if !doors::ranged(m) {
         return Started {
             answer: 16,
             machine: m,
@@ -57,33 +58,29 @@ pub fn step(file: &[u16], m: Machine, image: &mut [u8]) -> Ran
     run(file, m, image, 1)
 }
 
+// A call refused at a door counts nothing, and the machine is as given.
 pub fn run(file: &[u16], m: Machine, image: &mut [u8], budget: u32) -> Ran
     ensures { λ r. ⌜ Promise-run (plain (now (file .entry))) m (now (image .entry)) budget r (now (image .exit)) ⌝ }
 {
-    let door = machine::run_door(file, m, image, budget);
+    let door = doors::run_door(file, m, image, budget);
     if door != 0 {
-        return turned_away(m, door);
+        return Ran {
+            answer: door,
+            counts: Counts {
+                steps: 0,
+                words: 0,
+                stores: 0,
+            },
+            machine: m,
+        };
     }
     machine::run(file, m, image, budget)
-}
-
-// A call refused at a door counts nothing, and the machine is as given.
-fn turned_away(m: Machine, door: u8) -> Ran {
-    Ran {
-        answer: door,
-        counts: Counts {
-            steps: 0,
-            words: 0,
-            stores: 0,
-        },
-        machine: m,
-    }
 }
 
 pub fn clear(image: &mut [u8]) -> u8
     ensures { λ r. ⌜ Promise-clear (now (image .entry)) r (now (image .exit)) ⌝ }
 {
-    if image.len() != IMAGE_BYTES {
+    if image.len() != image::BYTES {
         return 11;
     }
     image::clear(image);
@@ -93,17 +90,24 @@ pub fn clear(image: &mut [u8]) -> u8
 pub fn read_pixel(image: &[u8], p: Pixel) -> Read
     ensures { λ r. ⌜ Promise-read (now (image .entry)) p r ⌝ }
 {
-    if image.len() != IMAGE_BYTES {
-        return unread(11);
+    if image.len() != image::BYTES {
+        return no_digit(11);
     }
-    let Index::At(x) = units::index_in(WIDTH, p.x) else {
-        return unread(31);
+    let Index::At(x) = units::index_in(image::WIDTH, p.x) else {
+        return no_digit(31);
     };
-    let Index::At(y) = units::index_in(HEIGHT, p.y) else {
-        return unread(31);
+    let Index::At(y) = units::index_in(image::HEIGHT, p.y) else {
+        return no_digit(31);
     };
     Read {
         answer: 0,
         digit: image::read(image, x, y),
     }
+}
+
+// A refusal reads 0.
+fn no_digit(answer: u8) -> Read
+    ensures { λ r. ⌜ r ≡ record { answer = answer; digit = 0 } ⌝ }
+{
+    Read { answer, digit: 0 }
 }

@@ -123,9 +123,9 @@ pub fn step(file: &[u16], m: Machine, image: &mut [u8]) -> Stepped
     let Fetched::Word(word) = got else {
         return unfetched(m, got);
     };
-    let why = words::first_refusal(m.mode, word);
-    if why != 0 {
-        return items::refused(m, why);
+    let refusal = words::first_refusal(m.mode, word);
+    if refusal != 0 {
+        return items::refused(m, refusal);
     }
     match words::decode(m.mode, word) {
         Instruction::Does(order) => does(file, m, order),

@@ -14,8 +14,8 @@ abbrev Inv-loop : tie.InvT-loop
 Inv-loop file image₀ budget here₀ steps₀ words₀ stores₀ left₀ image here steps words stores left =
     (length image ≡ length image₀)
     × (ranged here ≡ true)
-    × (steps + left ≤ budget)
-    × (words + 2 * left ≤ 2 * budget)
+    × (steps + 4096 * left ≤ 4096 * budget)
+    × (words + 4096 * left ≤ 4096 * budget)
     × (stores + 4096 * left ≤ 4096 * budget)
     × (run (given (plain file)) left (state here image steps words stores) ≡ run (given (plain file)) budget (begun here₀ image₀))
 
@@ -33,10 +33,10 @@ step-requires : tie.Need-step-requires Inv-loop μ-loop
 step-requires c κs = let l = c .before .before .before .before in (l .loop .inv .0 ∙ l .before .before .before .pre .0, l .loop .inv .1)
 
 add-steps : tie.Need-add-steps Inv-loop μ-loop
-add-steps c = omega (arith, few (c .before .before .before .before), c .before .before .before .before .before .before .before .before .before .before .before .before .pre .2)
+add-steps c = let l = c .before .before .before .before .before .before .before .before .before in omega (arith, few (c .before .before .before .before), l .loop .inv .2, l .before .before .before .pre .2)
 
 add-words : tie.Need-add-words Inv-loop μ-loop
-add-words c = omega (arith, few (c .before .before .before .before .before), c .before .before .before .before .before .before .before .before .before .before .before .before .before .pre .2)
+add-words c = let l = c .before .before .before .before .before .before .before .before .before .before in omega (arith, few (c .before .before .before .before .before), l .loop .inv .3, l .before .before .before .pre .2)
 
 add-stores : tie.Need-add-stores Inv-loop μ-loop
 add-stores c = let l = c .before .before .before .before .before .before .before .before .before .before .before in omega (arith, few (c .before .before .before .before .before .before), l .loop .inv .4, l .before .before .before .pre .2)
@@ -52,7 +52,7 @@ loop-again c =
     let s = c .before .before .before .before .before .before in
     let l = s .before .before .before .before .before in
     let k = few s in
-    let turn = run-next (given (plain _)) _ _ (s .step .ensures) (l .loop .left) (l .loop .steps) (l .loop .words) (l .loop .stores) (s .before .before .before .before .loop-test .taken) (s .before .before .if1 .left) in (
+    let turn = run-next (given (plain _)) _ _ (s .step .ensures) (l .loop .left) (l .loop .steps) (l .loop .words) (l .loop .stores) (omega (arith, s .before .before .before .before .loop-test .taken)) (s .before .before .if1 .left) in (
       s .step .kept .1 .1 .0 ∙ l .loop .inv .0,
       step-in-range (given (plain _)) _ _ (s .step .ensures) (l .loop .inv .1),
       omega arith,

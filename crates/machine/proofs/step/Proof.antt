@@ -1,3 +1,4 @@
+use native.Mathlib.Omega.{arith}
 use borrow.Author.Needs.{needs}
 use Rattle.definition.specs.Calls.{plain, given}
 use Rattle.machine.proofs.StepLaws.{not-fetched, word-refused, done-order, done-item, decode-sets}
@@ -28,7 +29,7 @@ refused-requires c κs = search needs
 returns-2 : tie.Need-returns-2
 returns-2 c =
     let w = c .before .before .before .before in
-    word-refused (given (plain _)) _ (w .before .before .fetch .ensures) (w .got .given .1) (c .before .before .first-refusal .ensures) _ (c .before .if1 .taken) (c .refused .ensures)
+    word-refused (given (plain _)) _ (w .before .before .fetch .ensures) (w .got .given .1) (c .before .before .first-refusal .ensures) _ (λ z. omega (arith, c .before .if1 .taken)) (c .refused .ensures)
 
 decode-requires : tie.Need-decode-requires
 decode-requires c κs = search needs
@@ -52,7 +53,7 @@ returns-3 : tie.Need-returns-3
 returns-3 c =
     let d = c .before .before .before .before in
     let w = d .before .before .before .before in
-    done-order (given (plain _)) _ (w .before .before .fetch .ensures) (w .got .given .1) (d .before .before .first-refusal .ensures) (d .before .if1 .left) (d .decode .ensures) _ (c .before .before .order .given .1) (c .does .ensures)
+    done-order (given (plain _)) _ (w .before .before .fetch .ensures) (w .got .given .1) (d .before .before .first-refusal .ensures) (omega (arith, d .before .if1 .left)) (d .decode .ensures) _ (c .before .before .order .given .1) (c .does .ensures)
 
 same-length : tie.Need-same-length
 same-length c = search needs
@@ -61,7 +62,7 @@ returns-4 : tie.Need-returns-4
 returns-4 c =
     let d = c .before .before .before .before .before .before .before in
     let w = d .before .before .before .before in
-    done-item (given (plain _)) _ (w .before .before .fetch .ensures) (w .got .given .1) (d .before .before .first-refusal .ensures) (d .before .if1 .left) (d .decode .ensures) _ (c .before .before .before .before .before .lit .given .1) (c .before .before .draws .ensures)
+    done-item (given (plain _)) _ (w .before .before .fetch .ensures) (w .got .given .1) (d .before .before .first-refusal .ensures) (omega (arith, d .before .if1 .left)) (d .decode .ensures) _ (c .before .before .before .before .before .lit .given .1) (c .before .before .draws .ensures)
 
 pub step-spec : {M : Type 1} → statement M
 step-spec =
