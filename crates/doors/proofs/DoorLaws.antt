@@ -1,10 +1,10 @@
 -- The doors of a run: the ranges of a machine's fields test by test, the answer at each door, and what an answer of 0 says.
 use Prim.Native.Nat.{ℕ, _<_, _≤_}
-use mathlib.Core.Bool.{Bool, true, false, not}
+use mathlib.Core.Bool.{Bool, true, false, not, _&&_}
 use mathlib.Core.List.{List, [], _∷_, _++_}
 use mathlib.Core.Path.{_≡_, refl, sym, _∙_}
 use native.Mathlib.Omega.{arith}
-use lib.Dec.{eqb, leb}
+use lib.Dec.{eqb, leb, ltb}
 use lib.ListN.{length}
 use borrow.Author.Tests.{lt-ltb, le-ltb, ltb-false, le-leb, lt-leb, eq-eqb, ne-eqb, eqb-true, not-true, not-false}
 use Rattle.definition.specs.Choice.{Test, firstOf, joined}
@@ -71,14 +71,17 @@ module _ (m : Machine) where
     unfolding ranged
     value-out p = rw (t .0, t .1, t .2, le-ltb (m .value) 4 (omega arith))
 
-    module _ (v : m .value ≤ 3) where
-      pub increment-out : 63 < m .increment → false ≡ ranged m
-      unfolding ranged
-      increment-out p = rw (t .0, t .1, t .2, lt-ltb (m .value) 4 (omega arith), lt-leb _ _ p)
+    pub increment-out : 63 < m .increment → false ≡ ranged m
+    unfolding ranged
+    increment-out p = rw (t .0, t .1, t .2, lt-leb _ _ p) (go (ltb (m .value) 4))
+      where
+        go : (v : Bool) → false ≡ v && false && isStatus (m .status)
+        go true = refl
+        go false = refl
 
-      pub by-status : m .increment ≤ 63 → {s : Bool} → s ≡ isStatus (m .status) → s ≡ ranged m
-      unfolding ranged
-      by-status p e = rw (t .0, t .1, t .2, lt-ltb (m .value) 4 (omega arith), le-leb _ _ p) e
+    pub by-status : m .value ≤ 3 → m .increment ≤ 63 → {s : Bool} → s ≡ isStatus (m .status) → s ≡ ranged m
+    unfolding ranged
+    by-status v p e = rw (t .0, t .1, t .2, lt-ltb (m .value) 4 (omega arith), le-leb _ _ p) e
 
 -- ---- the doors
 -- those after the file's

@@ -1,3 +1,4 @@
+use native.Mathlib.Omega.{arith}
 use borrow.Author.Needs.{needs}
 use Rattle.doors.proofs.DoorLaws.{failed, held, x-out, y-out, mode-out, Tested, value-out, increment-out, by-status}
 use Rattle.doors.proofs.ranged.Statement.{statement}
@@ -33,12 +34,10 @@ tested c =
     (held (x .before .in-range .ensures) (x .if1 .left), held (y .before .in-range2 .ensures) (y .if2 .left), held (c .before .is-mode .ensures) (c .if3 .left))
 
 returns-4 : tie.Need-returns-4
-returns-4 c = value-out _ (tested (c .before .before)) (c .if4 .taken)
+returns-4 c = value-out _ (tested (c .before .before)) (omega (arith, c .if4 .taken))
 
 returns-5 : tie.Need-returns-5
-returns-5 c =
-    let v = c .before .before in
-    increment-out _ (tested (v .before .before)) (v .if4 .left) (c .if5 .taken)
+returns-5 c = increment-out _ (tested (c .before .before .before .before)) (omega (arith, c .if5 .taken))
 
 is-status-requires : tie.Need-is-status-requires
 is-status-requires c κs = search needs
@@ -46,7 +45,7 @@ is-status-requires c κs = search needs
 returns-6 : tie.Need-returns-6
 returns-6 c =
     let v = c .before .before .before in
-    by-status _ (tested (v .before .before)) (v .if4 .left) (c .before .if5 .left) (c .is-status .ensures)
+    by-status _ (tested (v .before .before)) (omega (arith, v .if4 .left)) (omega (arith, c .before .if5 .left)) (c .is-status .ensures)
 
 pub ranged-spec : {M : Type 1} → statement M
 ranged-spec =

@@ -1,5 +1,6 @@
 use mathlib.Core.Bool.{true}
 use mathlib.Core.Path.{_≡_}
+use native.Mathlib.Omega.{arith}
 use borrow.Author.Needs.{needs}
 use Rattle.definition.specs.Machine.{ranged}
 use Rattle.doors.proofs.DoorLaws.{failed, held, image-shut, file-shut, Past-the-file, file-passed, machine-shut, budget-shut, not-running, all-open}
@@ -28,13 +29,13 @@ sound : (c : tie.Else3) → ranged (c .before .before .before .before .before .b
 sound c = held (c .before .before .before .ranged .ensures) (c .if3 .left)
 
 returns-4 : tie.Need-returns-4
-returns-4 c = budget-shut _ _ _ _ (past (c .before .before)) (sound (c .before)) (c .if4 .taken)
+returns-4 c = budget-shut _ _ _ _ (past (c .before .before)) (sound (c .before)) (omega (arith, c .if4 .taken))
 
 returns-5 : tie.Need-returns-5
-returns-5 c = not-running _ _ _ _ (past (c .before .before .before)) (sound (c .before .before)) (c .before .if4 .left) (c .if5 .taken)
+returns-5 c = not-running _ _ _ _ (past (c .before .before .before)) (sound (c .before .before)) (omega (arith, c .before .if4 .left)) (c .if5 .taken)
 
 returns-6 : tie.Need-returns-6
-returns-6 c = all-open _ _ _ _ (past (c .before .before .before)) (sound (c .before .before)) (c .before .if4 .left) (c .if5 .left)
+returns-6 c = all-open _ _ _ _ (past (c .before .before .before)) (sound (c .before .before)) (omega (arith, c .before .if4 .left)) (c .if5 .left)
 
 pub run-door-spec : {M : Type 1} → statement M
 run-door-spec =
