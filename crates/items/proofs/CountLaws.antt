@@ -1,4 +1,4 @@
--- How many pixels a step stores at most: what a run counts them in has room for a million steps.
+-- How many pixels a step stores at most, so that a run's count of them fits.
 use Prim.Native.Nat.{ℕ, _≤_}
 use mathlib.Core.Bool.{Bool, true, false, _&&_}
 use mathlib.Core.Path.{_≡_}
@@ -22,7 +22,7 @@ use Rattle.definition.specs.declared.Instruction.{Instruction}
 use Rattle.definition.specs.declared.Instruction.the-variants.{Does, Draws}
 use Rattle.vector.proofs.ReachLaws.{reaches, vector-short}
 use Rattle.items.specs.Goes.{kept}
-use Rattle.items.proofs.ItemLaws.{in-range}
+use Rattle.definition.proofs.StepLaws.{ranges}
 
 inside-shorter : (s : Shape) (ps : List Pixel) → length (inside s ps) ≤ length ps
 unfolding inside
@@ -44,7 +44,7 @@ kept-shorter m lit ps = go (lit && m .write)
 module _ (m : Machine) (h : ranged m ≡ true) where
   vector-few : (dx dy : Units) → leaves (m .x) (Move dx) ≡ false → leaves (m .y) (Move dy) ≡ false → length (vectorBy m dx dy) ≤ 4096
   vector-few dx dy lx ly =
-      let w = in-range m h in
+      let w = ranges m .0 h in
       vector-short _ _ (reaches _ _ (w .x) (w .y)) (reaches _ _ (not-false (inRange (moved (m .x) dx)) lx) (not-false (inRange (moved (m .y) dy)) ly))
 
   item-few : (it : Item) (v : ℕ) → leaves (m .x) (itemWay (m .increment) it v .x) ≡ false → leaves (m .y) (itemWay (m .increment) it v .y) ≡ false → length (itemPixels m it v) ≤ 4096

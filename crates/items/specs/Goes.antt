@@ -36,15 +36,19 @@ kept m lit ps = pick (lit && m .write) (inside (shapeOf m) ps) []
 unfoldable pub lights : Machine → Bool → List ℕ → List Pixel → Left ℕ
 lights m lit im ps = left (length (kept m lit ps)) (stores (shapeOf m) (penOf m) im (kept m lit ps))
 
--- an item's words, and the machine once it is past them, at (x, y)
+-- an item's words, and the machine past them, at (x, y)
 abbrev pub wordsIf : Bool → ℕ
 wordsIf second = pick second 2 1
 
-abbrev pub placed : Machine → Bool → Units → Units → Machine
-placed m second x y = withPosition (withCounter m (past (wordsIf second) (m .counter))) x y
+abbrev pub arrived : Machine → Bool → Units → Units → Machine
+arrived m second x y = withPosition (withCounter m (past (wordsIf second) (m .counter))) x y
+
+-- an item that completes, at its new position
+unfoldable pub placed : Machine → Bool → Units → Units → List Pixel → Step
+placed m second x y ps = record { machine = arrived m second x y; steps = 1; words = wordsIf second; pixels = ps }
 
 -- an item by its way, the pixels that it lights, and whether it has a second word
 unfoldable pub goes : Machine → Bool → Way → List Pixel → Bool → Step
 goes m lit w ps second =
     pick (leaves (m .x) (w .x) || leaves (m .y) (w .y)) (refuses m 27)
-    (record { machine = placed m second (changed (m .x) (w .x)) (changed (m .y) (w .y)); steps = 1; words = wordsIf second; pixels = kept m lit ps })
+    (placed m second (changed (m .x) (w .x)) (changed (m .y) (w .y)) (kept m lit ps))

@@ -4,7 +4,7 @@ use definition::Machine;
 use definition::Units;
 use units::Moved;
 ghost use mathlib.Core.Path.{_≡_};
-ghost use mathlib.Core.Bool.{true, false};
+ghost use mathlib.Core.Bool.{true, false, _&&_};
 ghost use Prim.Native.Nat.{_<_};
 ghost use lib.IntN.{pos};
 ghost use lib.ListN.{length};
@@ -13,7 +13,9 @@ ghost use Rattle.definition.specs.Image.{imageBytes, left};
 ghost use Rattle.definition.specs.Machine.{next, inRange, ranged};
 ghost use Rattle.definition.specs.Step.{way, pointAt, vectorBy, refuses};
 ghost use Rattle.definition.specs.Step.Change.{Set, Move};
-ghost use Rattle.items.specs.Goes.{told, stepped, completed, vectorTo, lights, wordsIf, placed, goes};
+ghost use Rattle.units.specs.Answers.{movedTo};
+ghost use Rattle.items.specs.Goes.{told, stepped, completed, vectorTo, lights, wordsIf, arrived, goes};
+ghost use Rattle.items.specs.Ends.{Ends};
 
 // What a step answers: the machine that it leaves, and what it counts.
 pub struct Stepped {
@@ -60,7 +62,7 @@ pub fn completed(m: Machine, words: u32, stores: u32) -> Stepped
 
 // An item that completes: at its new position, the counter past its words.
 fn placed(m: Machine, second: bool, x: Units, y: Units, stores: u32) -> Stepped
-    ensures { λ r. ⌜ r ≡ completed (placed m second x y) (wordsIf second) stores ⌝ }
+    ensures { λ r. ⌜ r ≡ completed (arrived m second x y) (wordsIf second) stores ⌝ }
 {
     let mut n = m;
     n.x = x;
@@ -74,14 +76,21 @@ fn placed(m: Machine, second: bool, x: Units, y: Units, stores: u32) -> Stepped
 }
 
 // A lit item is stored only while write is on.
+fn keeps(lit: bool, write: bool) -> bool
+    ensures { λ r. ⌜ r ≡ lit && write ⌝ }
+{
+    if lit {
+        return write;
+    }
+    false
+}
+
+// At (x, y).
 fn point(m: Machine, image: &mut [u8], lit: bool, x: Units, y: Units) -> u32
     requires { ⌜ (length (now image) ≡ imageBytes) × (m .value < 4) ⌝ }
     ensures { λ r. ⌜ left r (now (image .exit)) ≡ lights m lit (now (image .entry)) (pointAt m x y) ⌝ }
 {
-    if !lit {
-        return 0;
-    }
-    if !m.write {
+    if !keeps(lit, m.write) {
         return 0;
     }
     image::plot(image, units::pixel_at(x, y), m.value)
@@ -92,14 +101,29 @@ fn line(m: Machine, image: &mut [u8], lit: bool, x: Units, y: Units) -> u32
     requires { ⌜ (length (now image) ≡ imageBytes) × (ranged m ≡ true) × (inRange x ≡ true) × (inRange y ≡ true) ⌝ }
     ensures { λ r. ⌜ left r (now (image .exit)) ≡ lights m lit (now (image .entry)) (vectorTo m x y) ⌝ }
 {
-    if !lit {
-        return 0;
-    }
-    if !m.write {
+    if !keeps(lit, m.write) {
         return 0;
     }
     let from = units::pixel_at(m.x, m.y);
     vector::draw(image, from, units::pixel_at(x, y), m.value)
+}
+
+// Where a move from the position ends, within the range or out of it.
+enum End {
+    Within { x: Units, y: Units },
+    Out,
+}
+
+fn end_of(m: Machine, dx: Units, dy: Units) -> End
+    ensures { λ r. ⌜ Ends m dx dy r ⌝ }
+{
+    let Moved::To(x) = units::moved_to(m.x, dx) else {
+        return End::Out;
+    };
+    let Moved::To(y) = units::moved_to(m.y, dy) else {
+        return End::Out;
+    };
+    End::Within { x, y }
 }
 
 // A short vector, and a long one, which has a second word.
@@ -114,10 +138,7 @@ pub fn vector_by(
     requires { ⌜ (length (now image) ≡ imageBytes) × (ranged m ≡ true) ⌝ }
     ensures { λ r. ⌜ left r (now (image .exit)) ≡ stepped m (now (image .entry)) (goes m lit (way (Move dx) (Move dy)) (vectorBy m dx dy) second) ⌝ }
 {
-    let Moved::To(x) = units::moved_to(m.x, dx) else {
-        return refused(m, 27);
-    };
-    let Moved::To(y) = units::moved_to(m.y, dy) else {
+    let End::Within { x, y } = end_of(m, dx, dy) else {
         return refused(m, 27);
     };
     let stores = line(m, image, lit, x, y);
@@ -129,10 +150,7 @@ pub fn relative_point(m: Machine, image: &mut [u8], lit: bool, dx: Units, dy: Un
     requires { ⌜ (length (now image) ≡ imageBytes) × (ranged m ≡ true) ⌝ }
     ensures { λ r. ⌜ left r (now (image .exit)) ≡ stepped m (now (image .entry)) (goes m lit (way (Move dx) (Move dy)) (pointAt m (moved (m .x) dx) (moved (m .y) dy)) false) ⌝ }
 {
-    let Moved::To(x) = units::moved_to(m.x, dx) else {
-        return refused(m, 27);
-    };
-    let Moved::To(y) = units::moved_to(m.y, dy) else {
+    let End::Within { x, y } = end_of(m, dx, dy) else {
         return refused(m, 27);
     };
     let stores = point(m, image, lit, x, y);
@@ -143,8 +161,14 @@ pub fn absolute_point(m: Machine, image: &mut [u8], lit: bool, x: Units, y: Unit
     requires { ⌜ (length (now image) ≡ imageBytes) × (ranged m ≡ true) × (inRange x ≡ true) × (inRange y ≡ true) ⌝ }
     ensures { λ r. ⌜ left r (now (image .exit)) ≡ stepped m (now (image .entry)) (goes m lit (way (Set x) (Set y)) (pointAt m x y) true) ⌝ }
 {
-    let stores = point(m, image, lit, x, y);
-    placed(m, true, x, y, stores)
+    placed(m, true, x, y, point(m, image, lit, x, y))
+}
+
+// A coordinate that grows by the increment.
+fn grown(u: Units, increment: u8) -> Moved
+    ensures { λ r. ⌜ r ≡ movedTo u (units (pos increment)) ⌝ }
+{
+    units::moved_to(u, Units(increment as i32))
 }
 
 // The point is plotted at the Y from before the step; then Y grows by the increment.
@@ -152,8 +176,7 @@ pub fn graph_x(m: Machine, image: &mut [u8], lit: bool, x: Units) -> Stepped
     requires { ⌜ (length (now image) ≡ imageBytes) × (ranged m ≡ true) × (inRange x ≡ true) ⌝ }
     ensures { λ r. ⌜ left r (now (image .exit)) ≡ stepped m (now (image .entry)) (goes m lit (way (Set x) (Move (units (pos (m .increment))))) (pointAt m x (m .y)) false) ⌝ }
 {
-    let grown = units::moved_to(m.y, Units(m.increment as i32));
-    let Moved::To(y) = grown else {
+    let Moved::To(y) = grown(m.y, m.increment) else {
         return refused(m, 27);
     };
     let stores = point(m, image, lit, x, m.y);
@@ -165,8 +188,7 @@ pub fn graph_y(m: Machine, image: &mut [u8], lit: bool, y: Units) -> Stepped
     requires { ⌜ (length (now image) ≡ imageBytes) × (ranged m ≡ true) × (inRange y ≡ true) ⌝ }
     ensures { λ r. ⌜ left r (now (image .exit)) ≡ stepped m (now (image .entry)) (goes m lit (way (Move (units (pos (m .increment)))) (Set y)) (pointAt m (m .x) y) false) ⌝ }
 {
-    let grown = units::moved_to(m.x, Units(m.increment as i32));
-    let Moved::To(x) = grown else {
+    let Moved::To(x) = grown(m.x, m.increment) else {
         return refused(m, 27);
     };
     let stores = point(m, image, lit, m.x, y);

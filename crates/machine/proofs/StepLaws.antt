@@ -31,7 +31,7 @@ use Rattle.definition.specs.declared.Instruction.the-variants.{Does, Draws}
 use Rattle.definition.proofs.Exactly.{apart, passes, stops}
 use Rattle.definition.proofs.Plain.{both-true, is-mostZ}
 use Rattle.definition.proofs.StepLaws.{pick-keeps}
-use Rattle.items.specs.Goes.{told, stepped, kept, goes}
+use Rattle.items.specs.Goes.{told, stepped, completed, kept, placed, goes}
 use Rattle.items.specs.declared.Stepped.{Stepped}
 use Rattle.machine.specs.Rest.{SetsWithin, restRefusals, rest, passedBy}
 
@@ -79,7 +79,7 @@ by-27 m false s = refl
 item-goes : (g : Given) (m : Machine) (lit : Bool) (it : Item)
     → firstOf (restRefusals m (Draws lit it) (second g m)) ≡ firstOf (wayRefusals m (itemWay (m .increment) it (wordIn (second g m))))
     → goes m lit (itemWay (m .increment) it (wordIn (second g m))) (itemPixels m it (wordIn (second g m))) (paired it) ≡ rest g m (Draws lit it)
-unfolding rest goes kept done wayRefusals firstOf
+unfolding rest goes placed kept done wayRefusals firstOf
 item-goes g m lit it e =
     rw e (
     by-27 m (leaves (m .x) (itemWay (m .increment) it (wordIn (second g m)) .x) || leaves (m .y) (itemWay (m .increment) it (wordIn (second g m)) .y))
@@ -146,7 +146,7 @@ module _ (g : Given) (m : Machine) where
     item-ends im lit it p e er = dark m im refl er (more-not-fetched (Draws lit it) p e)
 
     module _ {v : ℕ} (e : got ≡ Word v) where
-      pub jump-done : {r : Stepped} → r ≡ record { machine = withCounter m v; counts = record { steps = 1; words = 2; stores = 0 } } → r ≡ told (rest g m (Does Jump))
+      pub jump-done : {r : Stepped} → r ≡ completed (withCounter m v) 2 0 → r ≡ told (rest g m (Does Jump))
       unfolding rest restRefusals firstOf fetchRefusals secondRefusals wayRefusals done ordered
       jump-done er = rw (← eg, e, er)
 

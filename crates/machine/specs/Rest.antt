@@ -13,6 +13,7 @@ use Rattle.definition.specs.declared.Fetched.{Fetched}
 use Rattle.definition.specs.declared.Item.{Item}
 use Rattle.definition.specs.declared.Item.the-variants.{ShortVector, LongVector, AbsolutePoint, GraphX, GraphY, RelativePoint}
 use Rattle.definition.specs.declared.Instruction.{Instruction}
+use Rattle.items.specs.Goes.{completed}
 use Rattle.items.specs.declared.Stepped.{Stepped}
 
 -- the coordinates that an item sets outright are in range
@@ -39,4 +40,4 @@ rest g m i =
 
 -- an order of one word, once it is obeyed: the counter goes past it
 abbrev pub passedBy : Machine → Stepped
-passedBy m = record { machine = withCounter m (next (m .counter)); counts = record { steps = 1; words = 1; stores = 0 } }
+passedBy m = completed (withCounter m (next (m .counter))) 1 0

@@ -1,11 +1,12 @@
 use borrow.Author.Needs.{needs}
 use Rattle.definition.specs.Step.{pointAt}
-use Rattle.items.proofs.ItemLaws.{in-range, set-leads, goes-to}
+use Rattle.definition.proofs.StepLaws.{ranges}
+use Rattle.items.proofs.ItemLaws.{set-leads, goes-to}
 use Rattle.items.proofs.absolute_point.Statement.{statement}
 use Rattle.items.proofs.absolute_point.Tie as tie
 
 point-requires : tie.Need-point-requires
-point-requires c κs = let h = c .before .before .pre in (h .0, in-range _ (h .1) .value)
+point-requires c κs = let h = c .before .before .pre in (h .0, ranges _ .0 (h .1) .value)
 
 placed-requires : tie.Need-placed-requires
 placed-requires c κs = search needs

@@ -1,18 +1,16 @@
 use mathlib.Core.Logic.{inl}
 use Rattle.definition.specs.Step.{pointAt}
 use borrow.Author.Needs.{needs}
-use Rattle.items.proofs.ItemLaws.{in-range, set-leads, move-leads, move-leaves, by-increment, goes-out, goes-to}
+use Rattle.definition.proofs.StepLaws.{ranges}
+use Rattle.items.proofs.ItemLaws.{set-leads, move-leads, move-leaves, goes-out, goes-to}
 use Rattle.items.proofs.graph_y.Statement.{statement}
 use Rattle.items.proofs.graph_y.Tie as tie
 
-cast-t8 : tie.Need-cast-t8
-cast-t8 c = search needs
+grown-requires : tie.Need-grown-requires
+grown-requires c κs = search needs
 
-moved-to-requires : tie.Need-moved-to-requires
-moved-to-requires c κs = search needs
-
-enum-known-grown : tie.Need-enum-known-grown
-enum-known-grown c = search needs
+enum-known-x : tie.Need-enum-known-x
+enum-known-x c = search needs
 
 enum-told : tie.Need-enum-told
 enum-told c = search needs
@@ -21,14 +19,10 @@ refused-requires : tie.Need-refused-requires
 refused-requires c κs = search needs
 
 returns : tie.Need-returns
-returns c =
-    let k = c .before in
-    let g = k .before .before in
-    let s = g .before .before .before in
-    goes-out _ _ _ _ _ _ (inl (move-leaves _ _ (by-increment _ _ (in-range _ (s .pre .1) .increment) (g .moved-to .ensures)) (k .enum-told .given .1))) (c .refused .ensures)
+returns c = let k = c .before in goes-out _ _ _ _ _ _ (inl (move-leaves _ _ (k .before .before .grown .ensures) (k .enum-told .given .1))) (c .refused .ensures)
 
 point-requires : tie.Need-point-requires
-point-requires c κs = let h = c .before .before .before .before .before .before .before .pre in (h .0, in-range _ (h .1) .value)
+point-requires c κs = let h = c .before .before .before .before .before .before .pre in (h .0, ranges _ .0 (h .1) .value)
 
 placed-requires : tie.Need-placed-requires
 placed-requires c κs = search needs
@@ -40,18 +34,16 @@ returns-2 : tie.Need-returns-2
 returns-2 c =
     let p = c .before .before .before in
     let k = p .before .before .before in
-    let g = k .before .before in
-    let s = g .before .before .before in
+    let s = k .before .before .before .before in
     let m = s .args .m in
-    goes-to _ _ _ _ _ (λ x y. pointAt m (m .x) y) (move-leads _ _ (by-increment _ _ (in-range _ (s .pre .1) .increment) (g .moved-to .ensures)) (k .grown .given .1)) (set-leads _ _ (s .pre .2)) (p .point .ensures) (c .placed .ensures)
+    goes-to _ _ _ _ _ (λ x y. pointAt m (m .x) y) (move-leads _ _ (k .before .before .grown .ensures) (k .x .given .1)) (set-leads _ _ (s .pre .2)) (p .point .ensures) (c .placed .ensures)
 
 pub graph-y-spec : {M : Type 1} → statement M
 graph-y-spec =
     tie.close
     (tie.spec
-    cast-t8
-    moved-to-requires
-    enum-known-grown
+    grown-requires
+    enum-known-x
     enum-told
     refused-requires
     returns
