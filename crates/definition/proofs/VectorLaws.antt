@@ -1,15 +1,23 @@
--- A vector's pixels by one formula for both axes.
-use Prim.Native.Nat.{ℕ, suc, _+_, _*_, _<_}
+-- How many pixels are numbered, and a vector's pixels by one formula for both axes.
+use Prim.Native.Nat.{ℕ, zero, suc, _+_, _*_, _<_}
 use mathlib.Core.Bool.{Bool, true, false}
+use mathlib.Core.List.{[], _∷_}
 use mathlib.Core.Path.{_≡_, refl, sym, ap, _∙_}
+use native.Mathlib.Omega.{arith}
 use lib.Dec.{leb}
+use lib.ListN.{length, length-append}
 use lib.IntN.{ℤ, pos, negsuc, natAbs, _+ℤ_, _-ℤ_, _*ℤ_}
 use borrow.Author.Tests.{leb-true, leb-false}
 use Rattle.whole.specs.Parts.{whole, up, dn, add, sub, mul, floor-is}
 use Rattle.definition.specs.Choice.{pick}
 use Rattle.definition.specs.Units.{pixel}
-use Rattle.definition.specs.Vector.{apartX, apartY, longer, byOne, rounded, nth}
+use Rattle.definition.specs.Vector.{apartX, apartY, longer, byOne, rounded, numbered, nth}
 use Rattle.definition.specs.declared.Pixel.{Pixel}
+
+pub numbered-length : {A : Type 0} (f : ℕ → A) (k : ℕ) → length (numbered f k) ≡ k
+unfolding numbered
+numbered-length f zero = refl
+numbered-length f (suc k) = length-append (numbered f k) (f k ∷ []) ∙ (let e = numbered-length f k in omega arith)
 
 -- the numerator of a rounded coordinate
 abbrev pub top : ℤ → ℤ → ℕ → ℕ → ℤ

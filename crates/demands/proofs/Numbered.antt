@@ -4,16 +4,12 @@ use mathlib.Core.Path.{_≡_, refl, sym, ap, _∙_}
 use mathlib.Core.List.{List, [], _∷_, _++_, reverse, reverse-append}
 use native.Mathlib.Omega.{arith}
 use native.Mathlib.Decide.{ℕ-discrete}
-use lib.ListN.{length, getD, length-append, List·getD-append}
+use lib.ListN.{getD, List·getD-append}
 use lib.Seq.{getD-at}
 use Rattle.definition.specs.Vector.{numbered}
+use Rattle.definition.proofs.VectorLaws.{numbered-length}
 
 module _ {A : Type 0} where
-  pub numbered-length : (f : ℕ → A) (k : ℕ) → length (numbered f k) ≡ k
-  unfolding numbered
-  numbered-length f zero = refl
-  numbered-length f (suc k) = length-append (numbered f k) (f k ∷ []) ∙ (let e = numbered-length f k in omega arith)
-
   pub numbered-at : (f : ℕ → A) (k i : ℕ) (d : A) → i < k → getD (numbered f k) i d ≡ f i
   unfolding numbered
   numbered-at f zero i d h = absurd (omega arith)

@@ -13,11 +13,11 @@ use Rattle.definition.specs.Image.{Shape, square, pixelAt, inside, Pen, stores}
 use Rattle.definition.specs.Vector.{longer, rounded, nth, numbered, vector}
 use Rattle.definition.specs.declared.Units.{Units}
 use Rattle.definition.specs.declared.Pixel.{Pixel}
-use Rattle.definition.proofs.VectorLaws.{top, top-parts, along, one-formula}
+use Rattle.definition.proofs.VectorLaws.{numbered-length, top, top-parts, along, one-formula}
 use Rattle.definition.proofs.StoreLaws.{inside-reverse, stores-reverse}
 use Rattle.demands.specs.Exact.{exact}
 use Rattle.demands.proofs.Near.{near, near-end}
-use Rattle.demands.proofs.Numbered.{numbered-length, numbered-at, numbered-same, numbered-reverse}
+use Rattle.demands.proofs.Numbered.{numbered-at, numbered-same, numbered-reverse}
 
 -- ---- the list
 module _ (a b : Pixel) where

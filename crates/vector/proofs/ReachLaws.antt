@@ -1,11 +1,11 @@
 -- Every position in range has a pixel that the drawing takes; and between two such pixels a vector is short.
-use Prim.Native.Nat.{ℕ, zero, suc, _≤_}
+use Prim.Native.Nat.{suc, _≤_}
 use mathlib.Core.Bool.{Bool, true, false}
-use mathlib.Core.Path.{_≡_, refl, _∙_}
+use mathlib.Core.Path.{_≡_}
 use mathlib.Core.List.{[], _∷_}
 use native.Mathlib.Omega.{arith}
 use lib.Dec.{eqb}
-use lib.ListN.{length, length-append}
+use lib.ListN.{length}
 use lib.IntN.{pos, negsuc}
 use lib.Signed.{leZ}
 use Rattle.whole.specs.Parts.{whole, sub, abs, floor}
@@ -17,6 +17,7 @@ use Rattle.definition.specs.Machine.{inRange}
 use Rattle.definition.specs.declared.Units.{Units}
 use Rattle.definition.specs.declared.Pixel.{Pixel}
 use Rattle.definition.proofs.Plain.{both-true}
+use Rattle.definition.proofs.VectorLaws.{numbered-length}
 use Rattle.vector.specs.Raised.{Reached, Reaches}
 
 reached : (u : Units) → inRange u ≡ true → Reached (pixelsOf 2 u)
@@ -29,11 +30,6 @@ reached u e =
 pub reaches : (x y : Units) → inRange x ≡ true → inRange y ≡ true → Reaches (pixelAt square x y)
 unfolding pixelAt
 reaches x y ex ey = record { x = reached x ex; y = reached y ey }
-
-numbered-length : (f : ℕ → Pixel) (k : ℕ) → length (numbered f k) ≡ k
-unfolding numbered
-numbered-length f zero = refl
-numbered-length f (suc k) = length-append (numbered f k) (f k ∷ []) ∙ (let e = numbered-length f k in omega arith)
 
 longer-short : (a b : Pixel) → Reaches a → Reaches b → longer a b ≤ 4095
 unfolding longer
