@@ -1,6 +1,6 @@
 #!/bin/sh
-# docs/DEFINITION.md against the tree: every definition, example, theorem, function and edit that it names is there; every theorem is named in it, and
-# every function of the parts that another crate can call.
+# docs/DEFINITION.md and docs/PROMISES.md against the tree: every definition, example, theorem, function and edit that they name is there; DEFINITION.md names
+# every theorem and every function that another crate can call, PROMISES.md every promise and every edit of the machine and the calls.
 set -eu
 cd "$(dirname "$0")/.."
 doc=docs/DEFINITION.md
@@ -9,7 +9,9 @@ work=$(mktemp -d)
 trap 'rm -rf "$work"' EXIT
 
 # what stands between backquotes, one to a line
-tr '\n' ' ' <"$doc" | grep -o '`[^` ]*`' | tr -d '`' | sort -u >"$work/named"
+quoted() { tr '\n' ' ' <"$1" | grep -o '`[^` ]*`' | tr -d '`' | sort -u; }
+quoted "$doc" >"$work/named"
+quoted docs/PROMISES.md >"$work/promised"
 failed=0
 
 # `File.name`: declared in a file of that name
@@ -22,9 +24,22 @@ done <"$work/definitions"
 
 # `some_edit`, `crate/some_edit`: a must-fail edit of the definition, or of that crate
 sed -nE -e 's#^[a-z0-9]+(_[a-z0-9]+)+$#definition/&#p' -e '/^[a-z]+\/[a-z0-9]+(_[a-z0-9]+)+$/p' "$work/named" >"$work/edits"
+sed -nE '/^[a-z]+\/[a-z0-9]+(_[a-z0-9]+)+$/p' "$work/promised" >>"$work/edits"
 while IFS=/ read -r crate edit; do
-    [ -f "crates/$crate/must-fail/$edit.edit" ] || { echo "$doc names the edit $edit of $crate, which is not there"; failed=1; }
+    [ -f "crates/$crate/must-fail/$edit.edit" ] || { echo "docs/ names the edit $edit of $crate, which is not there"; failed=1; }
 done <"$work/edits"
+for crate in items orders machine doors display; do
+    for edit in crates/"$crate"/must-fail/*.edit; do
+        grep -qx -e "$crate/$(basename "$edit" .edit)" "$work/promised" || { echo "docs/PROMISES.md does not name $edit"; failed=1; }
+    done
+done
+
+# the promises, and the theorem of one outcome of each
+sed -nE 's/^abbrev pub Promise-([a-z]+) :.*/\1/p' crates/definition/specs/Promises.antt >"$work/promises"
+while read -r call; do
+    grep -qx -e "Promise-$call" "$work/promised" && grep -qx -e "one-$call" "$work/promised" && grep -q "Promise-$call " crates/display/src/lib.rt ||
+        { echo "docs/PROMISES.md or crates/display does not name Promise-$call, or its theorem one-$call"; failed=1; }
+done <"$work/promises"
 
 # `crate::function`: in that crate's source; and each that is public is named
 sed -nE 's/^([a-z]+)::([a-z_0-9]+)$/\1 \2/p' "$work/named" >"$work/functions"
@@ -32,7 +47,7 @@ while read -r crate function; do
     grep -Eq "^(pub )?fn $function\(" "crates/$crate/src/lib.rt" 2>/dev/null ||
         { echo "$doc names the function $crate::$function, which is not there"; failed=1; }
 done <"$work/functions"
-for crate in units image file words vector; do
+for crate in units image file words vector items orders machine doors display line; do
     sed -nE "s/^pub fn ([a-z_0-9]+)\(.*/$crate::\1/p" "crates/$crate/src/lib.rt"
 done >"$work/public"
 while read -r function; do

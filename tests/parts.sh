@@ -20,7 +20,7 @@ cases=$(wc -l <"$work/index")
 [ "$cases" -ge "$least" ] || { echo "parts: second made $cases cases, fewer than $least"; exit 1; }
 
 status=0
-tests/run-x86 "$program" <"$work/cases" >"$work/got" || status=$?
+tools/run-x86 "$program" <"$work/cases" >"$work/got" || status=$?
 if [ "$status" -eq 0 ] && cmp -s "$work/expected" "$work/got"; then
     echo "parts: $((cases)) records agree with second (seed $seed)"
     exit 0

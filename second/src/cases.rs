@@ -19,21 +19,21 @@ const MOST_STORES: u64 = 600;
 const MOST_STEPS: u64 = 200;
 
 const NO_MODE: u16 = 0;
-const SHORT_VECTOR: u16 = 1;
-const LONG_VECTOR: u16 = 2;
-const ABSOLUTE_POINT: u16 = 3;
+pub(crate) const SHORT_VECTOR: u16 = 1;
+pub(crate) const LONG_VECTOR: u16 = 2;
+pub(crate) const ABSOLUTE_POINT: u16 = 3;
 const GRAPH_X: u16 = 4;
 const GRAPH_Y: u16 = 5;
 const RELATIVE_POINT: u16 = 6;
 
-const JUMP: u16 = 12;
+pub(crate) const JUMP: u16 = 12;
 const NO_OP: u16 = 13;
 const STATUS_A: u16 = 14;
 const STATUS_C_OR_INCREMENT: u16 = 15;
 const NOT_BUILT: [u16; 6] = [0, 7, 8, 9, 10, 11];
 
 /// All bits but 15.
-const DATA: u16 = 0x7FFF;
+pub(crate) const DATA: u16 = 0x7FFF;
 const LIT: u16 = 1 << 14;
 const MINUS: u16 = 1 << 13;
 const LONGEST_MOVE: i32 = 1_023;
@@ -65,7 +65,7 @@ impl fmt::Display for Case {
     }
 }
 
-fn case(random: &mut Random) -> Case {
+pub(crate) fn case(random: &mut Random) -> Case {
     loop {
         let mut most_steps = MOST_STEPS;
         let bytes = match random.below(100) {
@@ -86,12 +86,12 @@ fn case(random: &mut Random) -> Case {
     }
 }
 
-fn bytes_of(words: &[u16]) -> Vec<u8> {
+pub(crate) fn bytes_of(words: &[u16]) -> Vec<u8> {
     words.iter().flat_map(|word| word.to_le_bytes()).collect()
 }
 
 /// A program of up to four pieces in as many segments, with other segments laid over them.
-fn program(random: &mut Random) -> Vec<u16> {
+pub(crate) fn program(random: &mut Random) -> Vec<u16> {
     let pieces = 1 + random.below(4) * random.below(2);
     let spare = random.below(SEGMENTS - pieces + 1) * random.below(2);
     let count = pieces + spare;
@@ -134,7 +134,7 @@ fn program(random: &mut Random) -> Vec<u16> {
 
 /// The pieces in the given order, and a header. Numbers without a piece of their own get
 /// any part of the file.
-fn laid_out(random: &mut Random, count: u16, pieces: Vec<(u16, Vec<u16>)>) -> Vec<u16> {
+pub(crate) fn laid_out(random: &mut Random, count: u16, pieces: Vec<(u16, Vec<u16>)>) -> Vec<u16> {
     let header = 2 + 2 * count;
     let mut body = Vec::new();
     let mut places = vec![None; usize::from(count)];
@@ -181,7 +181,7 @@ fn repeated(random: &mut Random) -> Vec<u16> {
 }
 
 /// Words that nobody meant as a program, behind a mode so that some of them are obeyed.
-fn noise(random: &mut Random) -> Vec<u16> {
+pub(crate) fn noise(random: &mut Random) -> Vec<u16> {
     let mut words = vec![control(random.between(1, 6))];
     for _ in 0..random.below(40) {
         let word = random.word();
@@ -595,7 +595,7 @@ impl<'a> Writer<'a> {
     }
 }
 
-fn control(code: u16) -> u16 {
+pub(crate) fn control(code: u16) -> u16 {
     1 << 15 | code << 11
 }
 

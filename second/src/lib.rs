@@ -6,6 +6,7 @@
 mod answer;
 pub mod cases;
 mod file;
+pub mod files;
 mod image;
 mod machine;
 pub mod parts;

@@ -1,5 +1,6 @@
 //! The command: `second plot` reads a display file and prints its line,
-//! `second cases SEED COUNT` prints random files with theirs, and
+//! `second cases SEED COUNT` prints random files with theirs,
+//! `second files SEED COUNT DIR` writes random files and a list of their lines, and
 //! `second parts SEED DIR [COUNT]` writes cases for the parts of an implementation.
 
 use std::env;
@@ -9,6 +10,7 @@ use std::path::{Path, PathBuf};
 use std::process::ExitCode;
 
 use second::cases::cases;
+use second::files::files;
 use second::parts::{parts, USUAL_COUNT};
 use second::plot::{plot, INPUT_LIMIT};
 
@@ -18,6 +20,11 @@ enum Task {
     Cases {
         seed: u64,
         count: usize,
+    },
+    Files {
+        seed: u64,
+        count: usize,
+        folder: PathBuf,
     },
     Parts {
         seed: u64,
@@ -33,7 +40,8 @@ fn main() -> ExitCode {
             eprintln!(
                 "Call it as `second plot`, with a display file on standard input, \
                  as `second cases SEED COUNT`, with two whole numbers, \
-                 or as `second parts SEED DIR [COUNT]`, with a folder to write to."
+                 as `second files SEED COUNT DIR`, with a folder to write to, \
+                 or as `second parts SEED DIR [COUNT]`, with such a folder too."
             );
             return ExitCode::from(2);
         }
@@ -41,6 +49,11 @@ fn main() -> ExitCode {
     let done = match task {
         Task::Plot => plot_standard_input(),
         Task::Cases { seed, count } => print_cases(seed, count),
+        Task::Files {
+            seed,
+            count,
+            folder,
+        } => write_files(seed, count, &folder),
         Task::Parts {
             seed,
             folder,
@@ -64,6 +77,11 @@ fn task() -> Option<Task> {
         ["cases", seed, count] => Some(Task::Cases {
             seed: seed.parse().ok()?,
             count: count.parse().ok()?,
+        }),
+        ["files", seed, count, folder] => Some(Task::Files {
+            seed: seed.parse().ok()?,
+            count: count.parse().ok()?,
+            folder: PathBuf::from(folder),
         }),
         ["parts", seed, folder] => Some(Task::Parts {
             seed: seed.parse().ok()?,
@@ -93,6 +111,16 @@ fn print_cases(seed: u64, count: usize) -> io::Result<()> {
         writeln!(output, "{}", case)?;
     }
     output.flush()
+}
+
+/// Files 00001.df and so on, and their lines in that order.
+fn write_files(seed: u64, count: usize, folder: &Path) -> io::Result<()> {
+    let mut expected = String::new();
+    for (number, file) in (1..=count).zip(files(seed)) {
+        fs::write(folder.join(format!("{:05}.df", number)), &file.bytes)?;
+        expected += &format!("{}\n", file.line);
+    }
+    fs::write(folder.join("expected"), expected)
 }
 
 fn write_parts(seed: u64, folder: &Path, count: usize) -> io::Result<()> {

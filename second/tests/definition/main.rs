@@ -4,6 +4,7 @@ mod answers;
 mod cases;
 mod drift;
 mod edges;
+mod files;
 mod layouts;
 mod manuals;
 mod program;

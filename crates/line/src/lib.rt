@@ -1,0 +1,133 @@
+// What `plot` prints: from the bytes of a display file to the seven numbers of its line, and the line written out.
+use definition::Units;
+use libc::STDOUT_FILENO;
+ghost use mathlib.Core.Path.{_≡_};
+ghost use Prim.Native.Nat.{_+_, _*_, _/_, _≤_};
+ghost use lib.IntN.{natAbs};
+ghost use lib.ListN.{length, take};
+ghost use Rattle.io.specs.Counts.{Counts};
+ghost use Rattle.definition.specs.Image.{blank};
+ghost use Rattle.definition.specs.Machine.{fresh};
+ghost use Rattle.definition.specs.Calls.{plain, runCall};
+ghost use Rattle.definition.specs.Plot.{wordsIn, plotBudget, ranLine, refusedLine, plotLine};
+ghost use Rattle.line.specs.Numbers.{numbers};
+
+pub struct Line {
+    pub answer: u8,
+    pub steps: u32,
+    pub words: u32,
+    pub stores: u32,
+    pub counter: u16,
+    pub x: Units,
+    pub y: Units,
+}
+
+const BUDGET: u32 = 1000;
+
+// Two bytes a word, the low one first.
+fn word_of(low: u8, high: u8) -> u16
+    ensures { λ r. ⌜ r ≡ low + 256 * high ⌝ }
+{
+    low as u16 + 256 * (high as u16)
+}
+
+// Puts the words of the bytes at the start of a list that has room for them, and answers how many they are.
+fn words_of(bytes: &[u8], words: &mut [u16]) -> usize
+    requires { ⌜ length (now bytes) / 2 ≤ length (now words) ⌝ }
+    ensures { λ r. ⌜ Counts r (now (words .exit)) ⌝ }
+    ensures { λ r. ⌜ take r (now (words .exit)) ≡ wordsIn (now (bytes .entry)) ⌝ }
+{
+    let n = bytes.len() / 2;
+    let mut i = 0;
+    while i < n {
+        let low = bytes[2 * i];
+        let high = bytes[2 * i + 1];
+        words[i] = word_of(low, high);
+        i += 1;
+    }
+    n
+}
+
+fn refused(answer: u8) -> Line
+    ensures { λ r. ⌜ numbers r ≡ refusedLine answer ⌝ }
+{
+    Line {
+        answer,
+        steps: 0,
+        words: 0,
+        stores: 0,
+        counter: 0,
+        x: Units(0),
+        y: Units(0),
+    }
+}
+
+// A fresh machine, on an image that is cleared.
+fn line_of_run(file: &[u16]) -> Line
+    ensures { λ r. ⌜ numbers r ≡ ranLine (runCall (plain (now (file .entry))) fresh blank plotBudget .result) ⌝ }
+{
+    let mut image = [0u8; 65536];
+    let ran = display::run(file, display::fresh(), &mut image, BUDGET);
+    let x = ran.machine.x;
+    let y = ran.machine.y;
+    Line {
+        answer: ran.answer,
+        steps: ran.counts.steps,
+        words: ran.counts.words,
+        stores: ran.counts.stores,
+        counter: ran.machine.counter,
+        x,
+        y,
+    }
+}
+
+// A run that is refused at a door leaves the fresh machine as it was, whose numbers are all 0: its line is that of a refusal.
+pub fn line_of(bytes: &[u8]) -> Line
+    ensures { λ r. ⌜ numbers r ≡ plotLine (now (bytes .entry)) ⌝ }
+{
+    if bytes.len() % 2 != 0 {
+        return refused(19);
+    }
+    if 65536 < bytes.len() {
+        return refused(19);
+    }
+    let mut words = [0u16; 32768];
+    let n = words_of(bytes, &mut words);
+    line_of_run(&words[..n])
+}
+
+// The size of a number without its sign.
+fn size(n: i32) -> u64
+    ensures { λ r. ⌜ r ≡ natAbs n ⌝ }
+{
+    let wide = n as i64;
+    if wide < 0 {
+        let positive = -wide;
+        return positive as u64;
+    }
+    wide as u64
+}
+
+fn print_signed(n: i32) {
+    if n < 0 {
+        io::write_all(STDOUT_FILENO, b"-");
+    }
+    io::print_decimal(STDOUT_FILENO, size(n));
+}
+
+fn print_next(n: u64) {
+    io::print_decimal(STDOUT_FILENO, n);
+    io::write_all(STDOUT_FILENO, b" ");
+}
+
+pub fn print(l: Line) {
+    print_next(l.answer as u64);
+    print_next(l.steps as u64);
+    print_next(l.words as u64);
+    print_next(l.stores as u64);
+    print_next(l.counter as u64);
+    print_signed(l.x.0);
+    io::write_all(STDOUT_FILENO, b" ");
+    print_signed(l.y.0);
+    io::write_all(STDOUT_FILENO, b"\n");
+}
