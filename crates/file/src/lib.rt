@@ -4,7 +4,7 @@ use definition::Unfetched;
 ghost use mathlib.Core.Path.{_≡_};
 ghost use Prim.Native.Nat.{_<_};
 ghost use lib.ListN.{getD, length};
-ghost use Rattle.definition.specs.File.{segments, offset, size, keeps, keepBelow, fetch, numberOf};
+ghost use Rattle.definition.specs.File.{segments, offset, size, keeps, keepBelow, fetch, numberOf, numberIn};
 ghost use Rattle.definition.specs.Calls.{checkCall};
 
 // Past its end a file reads 0, as in the definition: no caller has to show that a word is there.
@@ -96,12 +96,22 @@ pub fn fetch(words: &[u16], address: u16) -> Fetched
     Fetched::Word(word_at(words, offset + place) as u16)
 }
 
-pub fn number_of(why: Unfetched) -> u8
+fn number_of(why: Unfetched) -> u8
     ensures { λ r. ⌜ r ≡ numberOf why ⌝ }
 {
     match why {
         Unfetched::Odd => 21,
         Unfetched::NoSegment => 22,
         Unfetched::NoPlace => 23,
+    }
+}
+
+// The number that a fetch is refused with, 0 where it gave a word.
+pub fn number_in(got: Fetched) -> u8
+    ensures { λ r. ⌜ r ≡ numberIn got ⌝ }
+{
+    match got {
+        Fetched::Word(_) => 0,
+        Fetched::Refused(why) => number_of(why),
     }
 }

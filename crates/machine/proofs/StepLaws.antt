@@ -9,10 +9,10 @@ use lib.IntN.{pos, negsuc}
 use lib.Signed.{leZ, _≤ℤ_}
 use borrow.Author.Tests.{ne-eqb}
 use Rattle.whole.specs.Parts.{whole}
-use Rattle.definition.specs.Choice.{pick, firstOf, onlyIf}
+use Rattle.definition.specs.Choice.{pick, Test, firstOf}
 use Rattle.definition.specs.Image.{left, stores}
 use Rattle.definition.specs.File.{wordIn, numberOf, numberIn, fetchRefusals}
-use Rattle.definition.specs.Words.{bit, bits, long, coordinate, item, decode, jumps, paired, hasSecond, firstRefusals, secondRefusals}
+use Rattle.definition.specs.Words.{bit, bits, long, coordinate, item, decode, jumps, paired, firstRefusals, secondRefusals}
 use Rattle.definition.specs.Machine.{withCounter, inRange}
 use Rattle.definition.specs.Step.{way, pointAt, vectorBy, leaves, itemWay, itemPixels, ordered, done, Given, first, second, wayRefusals, refusals, refusal, Step, completes, refuses, step}
 use Rattle.definition.specs.Step.Change.{Set, Move}
@@ -33,6 +33,9 @@ use Rattle.definition.proofs.Plain.{both-true, is-mostZ}
 use Rattle.definition.proofs.StepLaws.{pick-keeps}
 use Rattle.items.specs.Goes.{told, stepped, completed, kept, placed, goes}
 use Rattle.items.specs.declared.Stepped.{Stepped}
+use Rattle.machine.specs.declared.Second.{Second}
+use Rattle.machine.specs.declared.Second.the-variants.{Taken, Turned}
+use Rattle.machine.specs.Seconds.{Seconds}
 use Rattle.machine.specs.Rest.{SetsWithin, restRefusals, rest, passedBy}
 
 -- a step that lights no pixel leaves the image
@@ -55,12 +58,16 @@ some-number Odd e = omega arith
 some-number NoSegment e = omega arith
 some-number NoPlace e = omega arith
 
--- a fetch that was refused ends the step with its number
-pub ends : (m : Machine) {got : Fetched} {why : Unfetched} {n : ℕ} {r : Stepped} → got ≡ Refused why → n ≡ numberOf why → r ≡ told (refuses m n) → r ≡ told (refuses m (numberIn got))
-ends m e en er = rw (er, en, e)
+-- a fetch that is refused answers with its number, which is not 0
+module _ {got f : Fetched} (eg : got ≡ f) {why : Unfetched} (e : got ≡ Refused why) {n : ℕ} (en : n ≡ numberIn got) where
+  numbered : firstOf (fetchRefusals f) ≡ n
+  numbered = ap (λ (g : Fetched). firstOf (fetchRefusals g)) (sym eg) ∙ fetch-number got ∙ sym en
 
-pub ends-not : (m : Machine) {got : Fetched} {w : ℕ} {r : Stepped} → got ≡ Word w → r ≡ told (refuses m 0) → r ≡ told (refuses m (numberIn got))
-ends-not m e er = rw (er, e)
+  not-zero : n ≡ 0 → ⊥
+  not-zero q = some-number why (sym (ap numberIn e) ∙ sym en ∙ q)
+
+  stopped : (ts : List Test) → firstOf (fetchRefusals f ++ ts) ≡ n
+  stopped ts = stops (fetchRefusals f) ts (λ q. not-zero (sym numbered ∙ q)) ∙ numbered
 
 module _ (g : Given) (m : Machine) where
   step-for : (n : ℕ) → refusal g m ≡ n → (n ≡ 0 → ⊥) → refuses m n ≡ step g m
@@ -130,55 +137,56 @@ module _ (g : Given) (m : Machine) where
   order-dark o = pick-keeps (λ (t : Step). t .pixels ≡ []) (eqb (firstOf (restRefusals m (Does o) (second g m))) 0) (λ e. refl) (λ e. refl)
 
   module _ {got : Fetched} (eg : got ≡ second g m) where
-    -- ---- the second word of a jump, or of a long vector or an absolute point
-    more-not-fetched : (i : Instruction) → hasSecond i ≡ true → {why : Unfetched} → got ≡ Refused why → refuses m (numberIn got) ≡ rest g m i
+    pub jump-ends : {why : Unfetched} {n : ℕ} → got ≡ Refused why → n ≡ numberIn got → {r : Stepped} → r ≡ told (refuses m n) → r ≡ told (rest g m (Does Jump))
     unfolding restRefusals fetchRefusals
-    more-not-fetched i h {why} e =
-        let n : firstOf (onlyIf (hasSecond i) (fetchRefusals (second g m))) ≡ numberIn got = rw h (ap (λ (f : Fetched). firstOf (fetchRefusals f)) (sym eg) ∙ fetch-number got) in
-        let z : numberIn got ≡ 0 → ⊥ = λ q. some-number why (sym (ap numberIn e) ∙ q) in
-        rest-for g m i (numberIn got) (stops (onlyIf (hasSecond i) (fetchRefusals (second g m))) _ (λ q. z (sym n ∙ q)) ∙ n) z
+    jump-ends {why} {n} e en er = er ∙ ap told (rest-for g m (Does Jump) n (stopped eg e en _) (not-zero eg e en))
 
-    pub jump-ends : {why : Unfetched} → got ≡ Refused why → {r : Stepped} → r ≡ told (refuses m (numberIn got)) → r ≡ told (rest g m (Does Jump))
-    jump-ends e er = er ∙ ap told (more-not-fetched (Does Jump) refl e)
+    pub jump-done : {v : ℕ} → got ≡ Word v → {r : Stepped} → r ≡ completed (withCounter m v) 2 0 → r ≡ told (rest g m (Does Jump))
+    unfolding rest restRefusals firstOf fetchRefusals secondRefusals wayRefusals done ordered
+    jump-done e er = rw (← eg, e, er)
 
-    pub item-ends : (im : List ℕ) (lit : Bool) (it : Item) → paired it ≡ true → {why : Unfetched} → got ≡ Refused why
-        → {r : Stepped} → r ≡ told (refuses m (numberIn got)) → left r im ≡ stepped m im (rest g m (Draws lit it))
-    item-ends im lit it p e er = dark m im refl er (more-not-fetched (Draws lit it) p e)
+    -- ---- the second word of a long vector or an absolute point
+    pub second-not-fetched : {why : Unfetched} {n : ℕ} → got ≡ Refused why → n ≡ numberIn got → Seconds g m (Turned n)
+    second-not-fetched e en = (not-zero eg e en, stopped eg e en _)
 
-    module _ {v : ℕ} (e : got ≡ Word v) where
-      pub jump-done : {r : Stepped} → r ≡ completed (withCounter m v) 2 0 → r ≡ told (rest g m (Does Jump))
-      unfolding rest restRefusals firstOf fetchRefusals secondRefusals wayRefusals done ordered
-      jump-done er = rw (← eg, e, er)
+    module _ {v : ℕ} (e : got ≡ Word v) {why : ℕ} (ew : why ≡ firstOf (secondRefusals v)) where
+      pub second-turned : (why ≡ 0 → ⊥) → Seconds g m (Turned why)
+      unfolding firstOf fetchRefusals
+      second-turned h = (h, rw (← eg, e) (sym ew))
 
-      module _ (lit : Bool) (it : Item) (p : paired it ≡ true) {why : ℕ} (ew : why ≡ firstOf (secondRefusals v)) where
-        past-more : firstOf (restRefusals m (Draws lit it) (second g m)) ≡ firstOf (secondRefusals v ++ wayRefusals m (itemWay (m .increment) it v))
-        unfolding restRefusals firstOf fetchRefusals secondRefusals wayRefusals
-        past-more = rw (← eg, e, p)
+      pub second-taken : why ≡ 0 → Seconds g m (Taken v)
+      second-taken z = (sym eg ∙ e, sym ew ∙ z)
 
-        pub second-refused : (im : List ℕ) → (why ≡ 0 → ⊥) → {r : Stepped} → r ≡ told (refuses m why) → left r im ≡ stepped m im (rest g m (Draws lit it))
-        second-refused im h er = dark m im refl er (rest-for g m (Draws lit it) why (past-more ∙ stops (secondRefusals v) _ (λ q. h (ew ∙ q)) ∙ sym ew) h)
+module _ (g : Given) (m : Machine) (im : List ℕ) (lit : Bool) {got : Second} (eg : Seconds g m got) where
+  pub item-turned : (it : Item) → paired it ≡ true → {n : ℕ} → got ≡ Turned n → {r : Stepped} → r ≡ told (refuses m n) → left r im ≡ stepped m im (rest g m (Draws lit it))
+  unfolding restRefusals fetchRefusals secondRefusals
+  item-turned it p {n} e er =
+      let s = subst (Seconds g m) e eg in
+      let h : firstOf (restRefusals m (Draws lit it) (second g m)) ≡ n = rw p (stops (fetchRefusals (second g m) ++ secondRefusals (wordIn (second g m))) _ (λ q. s .0 (sym (s .1) ∙ q)) ∙ s .1) in
+      dark m im refl er (rest-for g m (Draws lit it) n h (s .0))
 
-        two-words : why ≡ 0 → goes m lit (itemWay (m .increment) it v) (itemPixels m it v) true ≡ rest g m (Draws lit it)
-        unfolding secondRefusals
-        two-words z =
-            let w : wordIn (second g m) ≡ v = ap wordIn (sym eg ∙ e) in
-            let h : firstOf (restRefusals m (Draws lit it) (second g m)) ≡ firstOf (wayRefusals m (itemWay (m .increment) it v)) = past-more ∙ passes (secondRefusals v) _ refl (sym ew ∙ z) in
-            rw (← w, ← p) (item-goes g m lit it (rw w h))
+  module _ {v : ℕ} (e : got ≡ Taken v) where
+    two-words : (it : Item) → paired it ≡ true → goes m lit (itemWay (m .increment) it v) (itemPixels m it v) true ≡ rest g m (Draws lit it)
+    unfolding restRefusals firstOf fetchRefusals secondRefusals wayRefusals
+    two-words it p =
+        let s = subst (Seconds g m) e eg in
+        let w : wordIn (second g m) ≡ v = ap wordIn (s .0) in
+        let h : firstOf (restRefusals m (Draws lit it) (second g m)) ≡ firstOf (wayRefusals m (itemWay (m .increment) it (wordIn (second g m)))) = rw (s .0, p) (passes (secondRefusals v) (wayRefusals m (itemWay (m .increment) it v)) refl (s .1)) in
+        rw (← w, ← p) (item-goes g m lit it h)
 
-      module _ (im : List ℕ) (lit : Bool) {why : ℕ} (ew : why ≡ firstOf (secondRefusals v)) (z : why ≡ 0) {r : Stepped} {im′ : List ℕ} {u : Units} where
-        pub long-done : (dx : Units) → u ≡ long v → left r im′ ≡ stepped m im (goes m lit (way (Move dx) (Move u)) (vectorBy m dx u) true)
-            → left r im′ ≡ stepped m im (rest g m (Draws lit (LongVector dx)))
-        long-done dx eu er =
-            er
-            ∙ ap (λ (d : Units). stepped m im (goes m lit (way (Move dx) (Move d)) (vectorBy m dx d) true)) eu
-            ∙ ap (stepped m im) (two-words lit (LongVector dx) refl ew z)
+    pub long-done : (dx : Units) {u : Units} {r : Stepped} {im′ : List ℕ} → u ≡ long v → left r im′ ≡ stepped m im (goes m lit (way (Move dx) (Move u)) (vectorBy m dx u) true)
+        → left r im′ ≡ stepped m im (rest g m (Draws lit (LongVector dx)))
+    long-done dx eu er =
+        er
+        ∙ ap (λ (d : Units). stepped m im (goes m lit (way (Move dx) (Move d)) (vectorBy m dx d) true)) eu
+        ∙ ap (stepped m im) (two-words (LongVector dx) refl)
 
-        pub absolute-done : (x : Units) → u ≡ coordinate v → left r im′ ≡ stepped m im (goes m lit (way (Set x) (Set u)) (pointAt m x u) true)
-            → left r im′ ≡ stepped m im (rest g m (Draws lit (AbsolutePoint x)))
-        absolute-done x eu er =
-            er
-            ∙ ap (λ (y : Units). stepped m im (goes m lit (way (Set x) (Set y)) (pointAt m x y) true)) eu
-            ∙ ap (stepped m im) (two-words lit (AbsolutePoint x) refl ew z)
+    pub absolute-done : (x : Units) {u : Units} {r : Stepped} {im′ : List ℕ} → u ≡ coordinate v → left r im′ ≡ stepped m im (goes m lit (way (Set x) (Set u)) (pointAt m x u) true)
+        → left r im′ ≡ stepped m im (rest g m (Draws lit (AbsolutePoint x)))
+    absolute-done x eu er =
+        er
+        ∙ ap (λ (y : Units). stepped m im (goes m lit (way (Set x) (Set y)) (pointAt m x y) true)) eu
+        ∙ ap (stepped m im) (two-words (AbsolutePoint x) refl)
 
 -- ---- a coordinate that is set is in range
 pub coordinate-in : (w : ℕ) → inRange (coordinate w) ≡ true
@@ -207,12 +215,9 @@ decode-sets mode w ei e = subst P (sym ei ∙ e) (pick-keeps P (bit 15 w) (λ e.
 
 -- ---- the step, from its first word on
 module _ (g : Given) (m : Machine) {got : Fetched} (eg : got ≡ first g m) where
-  pub not-fetched : (im : List ℕ) {why : Unfetched} → got ≡ Refused why → {r : Stepped} → r ≡ told (refuses m (numberIn got)) → left r im ≡ stepped m im (step g m)
+  pub not-fetched : (im : List ℕ) {why : Unfetched} {n : ℕ} → got ≡ Refused why → n ≡ numberIn got → {r : Stepped} → r ≡ told (refuses m n) → left r im ≡ stepped m im (step g m)
   unfolding refusal refusals
-  not-fetched im {why} e er =
-      let h : firstOf (fetchRefusals (first g m)) ≡ numberIn got = ap (λ (f : Fetched). firstOf (fetchRefusals f)) (sym eg) ∙ fetch-number got in
-      let z : numberIn got ≡ 0 → ⊥ = λ q. some-number why (sym (ap numberIn e) ∙ q) in
-      dark m im refl er (step-for g m (numberIn got) (stops (fetchRefusals (first g m)) _ (λ q. z (sym h ∙ q)) ∙ h) z)
+  not-fetched im {why} {n} e en er = dark m im refl er (step-for g m n (stopped eg e en _) (not-zero eg e en))
 
   module _ {w : ℕ} (e : got ≡ Word w) {why : ℕ} (ew : why ≡ firstOf (firstRefusals (m .mode) w)) where
     is-word : wordIn (first g m) ≡ w

@@ -13,9 +13,8 @@ ghost use mathlib.Core.Bool.{true};
 ghost use Prim.Native.Nat.{_≤_};
 ghost use lib.ListN.{length};
 ghost use Rattle.definition.specs.Image.{imageBytes, left};
-ghost use Rattle.definition.specs.File.{numberIn};
 ghost use Rattle.definition.specs.Machine.{inRange, ranged};
-ghost use Rattle.definition.specs.Step.{refuses, step};
+ghost use Rattle.definition.specs.Step.{second, step};
 ghost use Rattle.definition.specs.Run.{begun, run};
 ghost use Rattle.definition.specs.Calls.{plain, given, answered};
 ghost use Rattle.definition.specs.declared.Order.the-variants.{Jump};
@@ -23,25 +22,23 @@ ghost use Rattle.definition.specs.declared.Item.the-variants.{LongVector, Absol
 ghost use Rattle.definition.specs.declared.Instruction.the-variants.{Does, Draws};
 ghost use Rattle.items.specs.Goes.{told, stepped};
 ghost use Rattle.machine.specs.Rest.{SetsWithin, rest, passedBy};
+ghost use Rattle.machine.specs.Seconds.{Seconds};
 
 // ---- the step
-// A fetch that gave no word ends the step.
-fn unfetched(m: Machine, got: Fetched) -> Stepped
-    ensures { λ r. ⌜ r ≡ told (refuses m (numberIn got)) ⌝ }
+// What stands after the word at the counter.
+fn next_word(file: &[u16], m: Machine) -> Fetched
+    ensures { λ r. ⌜ r ≡ second (given (plain (now (file .entry)))) m ⌝ }
 {
-    match got {
-        Fetched::Refused(why) => items::refused(m, file::number_of(why)),
-        Fetched::Word(_) => items::refused(m, 0),
-    }
+    file::fetch(file, items::next(m.counter))
 }
 
 // The target is the next word, of any value.
 fn jump(file: &[u16], m: Machine) -> Stepped
     ensures { λ r. ⌜ r ≡ told (rest (given (plain (now (file .entry)))) m (Does Jump)) ⌝ }
 {
-    let got = file::fetch(file, items::next(m.counter));
+    let got = next_word(file, m);
     let Fetched::Word(target) = got else {
-        return unfetched(m, got);
+        return items::refused(m, file::number_in(got));
     };
     let mut n = m;
     n.counter = target;
@@ -70,34 +67,44 @@ fn does(file: &[u16], m: Machine, order: Order) -> Stepped
     }
 }
 
+// The second word of a long vector or an absolute point: one that is taken, or the number that the step is refused with.
+enum Second {
+    Taken(u16),
+    Turned(u8),
+}
+
+fn second_word(file: &[u16], m: Machine) -> Second
+    ensures { λ r. ⌜ Seconds (given (plain (now (file .entry)))) m r ⌝ }
+{
+    let got = next_word(file, m);
+    let Fetched::Word(word) = got else {
+        return Second::Turned(file::number_in(got));
+    };
+    let why = words::second_refusal(word);
+    if why != 0 {
+        return Second::Turned(why);
+    }
+    Second::Taken(word)
+}
+
 fn long_vector(file: &[u16], m: Machine, image: &mut [u8], lit: bool, dx: Units) -> Stepped
     requires { ⌜ (length (now image) ≡ imageBytes) × (ranged m ≡ true) ⌝ }
     ensures { λ r. ⌜ left r (now (image .exit)) ≡ stepped m (now (image .entry)) (rest (given (plain (now (file .entry)))) m (Draws lit (LongVector dx))) ⌝ }
 {
-    let got = file::fetch(file, items::next(m.counter));
-    let Fetched::Word(second) = got else {
-        return unfetched(m, got);
-    };
-    let why = words::second_refusal(second);
-    if why != 0 {
-        return items::refused(m, why);
+    match second_word(file, m) {
+        Second::Taken(word) => items::vector_by(m, image, lit, dx, words::long(word), true),
+        Second::Turned(why) => items::refused(m, why),
     }
-    items::vector_by(m, image, lit, dx, words::long(second), true)
 }
 
 fn absolute_point(file: &[u16], m: Machine, image: &mut [u8], lit: bool, x: Units) -> Stepped
     requires { ⌜ (length (now image) ≡ imageBytes) × (ranged m ≡ true) × (inRange x ≡ true) ⌝ }
     ensures { λ r. ⌜ left r (now (image .exit)) ≡ stepped m (now (image .entry)) (rest (given (plain (now (file .entry)))) m (Draws lit (AbsolutePoint x))) ⌝ }
 {
-    let got = file::fetch(file, items::next(m.counter));
-    let Fetched::Word(second) = got else {
-        return unfetched(m, got);
-    };
-    let why = words::second_refusal(second);
-    if why != 0 {
-        return items::refused(m, why);
+    match second_word(file, m) {
+        Second::Taken(word) => items::absolute_point(m, image, lit, x, words::coordinate(word)),
+        Second::Turned(why) => items::refused(m, why),
     }
-    items::absolute_point(m, image, lit, x, words::coordinate(second))
 }
 
 fn draws(file: &[u16], m: Machine, image: &mut [u8], lit: bool, item: Item) -> Stepped
@@ -121,7 +128,7 @@ pub fn step(file: &[u16], m: Machine, image: &mut [u8]) -> Stepped
 {
     let got = file::fetch(file, m.counter);
     let Fetched::Word(word) = got else {
-        return unfetched(m, got);
+        return items::refused(m, file::number_in(got));
     };
     let refusal = words::first_refusal(m.mode, word);
     if refusal != 0 {

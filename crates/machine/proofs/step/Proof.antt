@@ -14,22 +14,25 @@ enum-known-got c = search needs
 enum-told : tie.Need-enum-told
 enum-told c = search needs
 
-unfetched-requires : tie.Need-unfetched-requires
-unfetched-requires c κs = search needs
-
-returns : tie.Need-returns
-returns c = not-fetched (given (plain _)) _ (c .before .before .before .fetch .ensures) _ (c .before .enum-told .given .1) (c .unfetched .ensures)
-
-first-refusal-requires : tie.Need-first-refusal-requires
-first-refusal-requires c κs = search needs
+number-in-requires : tie.Need-number-in-requires
+number-in-requires c κs = search needs
 
 refused-requires : tie.Need-refused-requires
 refused-requires c κs = search needs
 
+returns : tie.Need-returns
+returns c = not-fetched (given (plain _)) _ (c .before .before .before .before .fetch .ensures) _ (c .before .before .enum-told .given .1) (c .before .number-in .ensures) (c .refused .ensures)
+
+first-refusal-requires : tie.Need-first-refusal-requires
+first-refusal-requires c κs = search needs
+
+refused-requires-2 : tie.Need-refused-requires-2
+refused-requires-2 c κs = search needs
+
 returns-2 : tie.Need-returns-2
 returns-2 c =
     let w = c .before .before .before .before in
-    word-refused (given (plain _)) _ (w .before .before .fetch .ensures) (w .got .given .1) (c .before .before .first-refusal .ensures) _ (λ z. omega (arith, c .before .if1 .taken)) (c .refused .ensures)
+    word-refused (given (plain _)) _ (w .before .before .fetch .ensures) (w .got .given .1) (c .before .before .first-refusal .ensures) _ (λ z. omega (arith, c .before .if1 .taken)) (c .refused2 .ensures)
 
 decode-requires : tie.Need-decode-requires
 decode-requires c κs = search needs
@@ -71,10 +74,11 @@ step-spec =
     fetch-requires
     enum-known-got
     enum-told
-    unfetched-requires
+    number-in-requires
+    refused-requires
     returns
     first-refusal-requires
-    refused-requires
+    refused-requires-2
     returns-2
     decode-requires
     enum-known-order
