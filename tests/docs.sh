@@ -47,7 +47,7 @@ while read -r crate function; do
     grep -Eq "^(pub )?fn $function\(" "crates/$crate/src/lib.rt" 2>/dev/null ||
         { echo "$doc names the function $crate::$function, which is not there"; failed=1; }
 done <"$work/functions"
-for crate in units image file words vector items orders machine doors display line; do
+for crate in units image file words vector items orders machine doors display line text; do
     sed -nE "s/^pub fn ([a-z_0-9]+)\(.*/$crate::\1/p" "crates/$crate/src/lib.rt"
 done >"$work/public"
 while read -r function; do

@@ -1,9 +1,7 @@
-// What `plot` prints: from the bytes of a display file to the seven numbers of its line, and the line written out.
+// From the bytes of a display file to the seven numbers of its line.
 use definition::Units;
-use libc::STDOUT_FILENO;
 ghost use mathlib.Core.Path.{_≡_};
 ghost use Prim.Native.Nat.{_+_, _*_, _/_, _≤_};
-ghost use lib.IntN.{natAbs};
 ghost use lib.ListN.{length, take};
 ghost use Rattle.io.specs.Counts.{Counts};
 ghost use Rattle.definition.specs.Image.{blank};
@@ -24,6 +22,7 @@ pub struct Line {
 
 const BUDGET: u32 = 1000;
 
+// ---- the numbers
 // Two bytes a word, the low one first.
 fn word_of(low: u8, high: u8) -> u16
     ensures { λ r. ⌜ r ≡ low + 256 * high ⌝ }
@@ -94,40 +93,4 @@ pub fn line_of(bytes: &[u8]) -> Line
     let mut words = [0u16; 32768];
     let n = words_of(bytes, &mut words);
     line_of_run(&words[..n])
-}
-
-// The size of a number without its sign.
-fn size(n: i32) -> u64
-    ensures { λ r. ⌜ r ≡ natAbs n ⌝ }
-{
-    let wide = n as i64;
-    if wide < 0 {
-        let positive = -wide;
-        return positive as u64;
-    }
-    wide as u64
-}
-
-fn print_signed(n: i32) {
-    if n < 0 {
-        io::write_all(STDOUT_FILENO, b"-");
-    }
-    io::print_decimal(STDOUT_FILENO, size(n));
-}
-
-fn print_next(n: u64) {
-    io::print_decimal(STDOUT_FILENO, n);
-    io::write_all(STDOUT_FILENO, b" ");
-}
-
-pub fn print(l: Line) {
-    print_next(l.answer as u64);
-    print_next(l.steps as u64);
-    print_next(l.words as u64);
-    print_next(l.stores as u64);
-    print_next(l.counter as u64);
-    print_signed(l.x.0);
-    io::write_all(STDOUT_FILENO, b" ");
-    print_signed(l.y.0);
-    io::write_all(STDOUT_FILENO, b"\n");
 }
