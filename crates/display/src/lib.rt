@@ -74,7 +74,7 @@ pub fn run(file: &[u16], m: Machine, image: &mut [u8], budget: u32) -> Ran
             machine: m,
         };
     }
-    machine::run(file, m, image, budget)
+    run::run(file, m, image, budget)
 }
 
 pub fn clear(image: &mut [u8]) -> u8

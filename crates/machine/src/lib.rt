@@ -1,22 +1,18 @@
-// The machine: a step, and a run of steps within a budget.
-use definition::Counts;
+// The step: one instruction, from its first fetch to the machine, the counts and the image that it leaves.
 use definition::Fetched;
 use definition::Instruction;
 use definition::Item;
 use definition::Machine;
 use definition::Order;
-use definition::Ran;
 use definition::Units;
 use items::Stepped;
 ghost use mathlib.Core.Path.{_≡_};
 ghost use mathlib.Core.Bool.{true};
-ghost use Prim.Native.Nat.{_≤_};
 ghost use lib.ListN.{length};
 ghost use Rattle.definition.specs.Image.{imageBytes, left};
 ghost use Rattle.definition.specs.Machine.{inRange, ranged};
 ghost use Rattle.definition.specs.Step.{second, step};
-ghost use Rattle.definition.specs.Run.{begun, run};
-ghost use Rattle.definition.specs.Calls.{plain, given, answered};
+ghost use Rattle.definition.specs.Calls.{plain, given};
 ghost use Rattle.definition.specs.declared.Order.the-variants.{Jump};
 ghost use Rattle.definition.specs.declared.Item.the-variants.{LongVector, AbsolutePoint};
 ghost use Rattle.definition.specs.declared.Instruction.the-variants.{Does, Draws};
@@ -24,7 +20,6 @@ ghost use Rattle.items.specs.Goes.{told, stepped};
 ghost use Rattle.machine.specs.Rest.{SetsWithin, rest, passedBy};
 ghost use Rattle.machine.specs.Seconds.{Seconds};
 
-// ---- the step
 // What stands after the word at the counter.
 fn next_word(file: &[u16], m: Machine) -> Fetched
     ensures { λ r. ⌜ r ≡ second (given (plain (now (file .entry)))) m ⌝ }
@@ -137,37 +132,5 @@ pub fn step(file: &[u16], m: Machine, image: &mut [u8]) -> Stepped
     match words::decode(m.mode, word) {
         Instruction::Does(order) => does(file, m, order),
         Instruction::Draws { lit, item } => draws(file, m, image, lit, item),
-    }
-}
-
-// ---- the run
-pub fn run(file: &[u16], m: Machine, image: &mut [u8], budget: u32) -> Ran
-    requires { ⌜ (length (now image) ≡ imageBytes) × (ranged m ≡ true) × (budget ≤ 1000000) ⌝ }
-    ensures { λ r. ⌜ left r (now (image .exit)) ≡ answered (run (given (plain (now (file .entry)))) budget (begun m (now (image .entry)))) ⌝ }
-{
-    let mut here = m;
-    let mut steps = 0;
-    let mut words = 0;
-    let mut stores = 0;
-    let mut left = budget;
-    while 0 < left {
-        if here.status != 0 {
-            break;
-        }
-        let taken = step(file, here, image);
-        here = taken.machine;
-        steps += taken.counts.steps;
-        words += taken.counts.words;
-        stores += taken.counts.stores;
-        left -= 1;
-    }
-    Ran {
-        answer: here.status,
-        counts: Counts {
-            steps,
-            words,
-            stores,
-        },
-        machine: here,
     }
 }

@@ -6,9 +6,9 @@ use lib.ListN.{length}
 use Rattle.definition.specs.Machine.{ranged}
 use Rattle.definition.specs.Run.{begun, run}
 use Rattle.definition.specs.Calls.{plain, given, answered}
-use Rattle.machine.proofs.RunLaws.{state, Few, step-in-range, step-few, run-next, run-spent, run-over}
-use Rattle.machine.proofs.run.Statement.{statement}
-use Rattle.machine.proofs.run.Tie as tie
+use Rattle.run.proofs.RunLaws.{state, Few, step-in-range, step-few, run-next, run-spent, run-over}
+use Rattle.run.proofs.run.Statement.{statement}
+use Rattle.run.proofs.run.Tie as tie
 
 abbrev Inv-loop : tie.InvT-loop
 Inv-loop file image₀ budget here₀ steps₀ words₀ stores₀ left₀ image here steps words stores left =
