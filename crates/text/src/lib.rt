@@ -35,7 +35,7 @@ fn put_number(text: &mut [u8], at: usize, n: u64) -> usize
 }
 
 // A coordinate without its sign.
-fn size(u: Units) -> u64
+pub fn size(u: Units) -> u64
     ensures { λ r. ⌜ r ≡ natAbs (u .0) ⌝ }
 {
     let wide = u.0 as i64;
