@@ -4,7 +4,7 @@
 set -eu
 cd "$(dirname "$0")/.."
 seed=${SEED:-$(date +%s)}
-count=600
+count=400
 # One statement for many files, since the prover then computes once what they share; a statement for all would take too much memory.
 group=25
 
