@@ -1,6 +1,6 @@
 -- The line of an input: refused by 19, or else the line of the run of its words.
 use Prim.Native.Nat.{ℕ, _%_, _≤_, _<_}
-use mathlib.Core.Bool.{Bool, true, false}
+use mathlib.Core.Bool.{Bool, true, false, not, _||_}
 use mathlib.Core.List.{List}
 use mathlib.Core.Path.{_≡_, refl, sym, ap, _∙_}
 use lib.Dec.{eqb}
@@ -42,11 +42,14 @@ module _ (bytes : List ℕ) {line : List ℤ} where
   unfolding plotLine inputDoors firstOf
   odd p e = rw (ne-eqb _ _ p) e
 
-  module _ (even : length bytes % 2 ≡ 0) where
-    pub too-long : 65536 < length bytes → line ≡ refusedLine 19 → line ≡ plotLine bytes
-    unfolding plotLine inputDoors firstOf
-    too-long p e = rw (eq-eqb _ _ even, lt-ltb _ _ p) e
+  pub too-long : 65536 < length bytes → line ≡ refusedLine 19 → line ≡ plotLine bytes
+  unfolding plotLine inputDoors firstOf
+  too-long p e = rw (lt-ltb _ _ p, whichever (not (eqb (length bytes % 2) 0))) e
+    where
+      whichever : (t : Bool) → t || true ≡ true
+      whichever true = refl
+      whichever false = refl
 
-    pub ran : length bytes ≤ 65536 → {f : List ℕ} → f ≡ wordsIn bytes → line ≡ ranLine (outcome f) → line ≡ plotLine bytes
-    unfolding plotLine inputDoors firstOf runDoor
-    ran p ef e = rw (eq-eqb _ _ even, le-ltb _ _ p) (rw ef at e ∙ sym (line-of-the-run (wordsIn bytes)))
+  pub ran : length bytes % 2 ≡ 0 → length bytes ≤ 65536 → {f : List ℕ} → f ≡ wordsIn bytes → line ≡ ranLine (outcome f) → line ≡ plotLine bytes
+  unfolding plotLine inputDoors firstOf runDoor
+  ran even p ef e = rw (eq-eqb _ _ even, le-ltb _ _ p) (rw ef at e ∙ sym (line-of-the-run (wordsIn bytes)))

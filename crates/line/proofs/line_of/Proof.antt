@@ -14,7 +14,7 @@ refused-requires-2 : tie.Need-refused-requires-2
 refused-requires-2 c κs = search needs
 
 returns-2 : tie.Need-returns-2
-returns-2 c = too-long _ (omega arith) (omega arith) (c .refused2 .ensures)
+returns-2 c = too-long _ (omega arith) (c .refused2 .ensures)
 
 slice-aggregate-words-of : tie.Need-slice-aggregate-words-of
 slice-aggregate-words-of c = search needs
