@@ -1,11 +1,15 @@
-// The calls for a host program in C: plain numbers and slices in, plain numbers out. include/roadparsnip.h has them in C.
-// Each asks nothing of its caller: a C program can hand over any numbers.
+// The calls for a host program in C, which include/roadparsnip.h declares: plain numbers and slices, and no call asks anything of its caller.
 use definition::Machine;
 use definition::Pixel;
 use definition::Pixels;
 use definition::Units;
+ghost use mathlib.Core.Path.{_≡_};
+ghost use Rattle.definition.specs.Calls.{plain};
+ghost use Rattle.definition.specs.Promises.{Promise-check, Promise-clear};
+ghost use Rattle.host.specs.Numbers.{number, numbersOf, machineOf, flags, taken, given-back};
+ghost use Rattle.host.specs.Promises.{Promise-host-fresh, Promise-host-start, Promise-host-run, Promise-host-step, Promise-host-read};
 
-// The machine in numbers, without a gap between two fields. A flag that is neither 0 nor 1 is out of range.
+// The machine in numbers, in an order that leaves no gap between two fields. A flag that is neither 0 nor 1 is out of range.
 #[repr(C)]
 pub struct HostMachine {
     pub x: i32,
@@ -34,45 +38,42 @@ pub struct HostRan {
     pub answer: u8,
 }
 
-fn number_of(flag: bool) -> u8 {
+// ---- numbers and machines
+fn number(flag: bool) -> u8
+    ensures { λ r. ⌜ r ≡ number flag ⌝ }
+{
     if flag {
         return 1;
     }
     0
 }
 
-fn numbers_of(m: Machine) -> HostMachine {
+fn numbers_of(m: Machine) -> HostMachine
+    ensures { λ r. ⌜ r ≡ numbersOf m ⌝ }
+{
+    let write = number(m.write);
+    let latch = number(m.latch);
     HostMachine {
         x: m.x.0,
         y: m.y.0,
         counter: m.counter,
         mode: m.mode,
         value: m.value,
-        write: number_of(m.write),
-        latch: number_of(m.latch),
+        write,
+        latch,
         increment: m.increment,
         status: m.status,
     }
 }
 
-fn flags(m: HostMachine) -> bool {
-    if 1 < m.write {
-        return false;
-    }
-    m.latch < 2
-}
-
-// Where a flag is out of range, a machine whose mode is.
-fn machine_of(m: HostMachine) -> Machine {
-    let mut mode = m.mode;
-    if !flags(m) {
-        mode = 0;
-    }
+fn machine_of(m: HostMachine) -> Machine
+    ensures { λ r. ⌜ r ≡ machineOf m ⌝ }
+{
     Machine {
         counter: m.counter,
         x: Units(m.x),
         y: Units(m.y),
-        mode,
+        mode: m.mode,
         value: m.value,
         write: m.write == 1,
         latch: m.latch == 1,
@@ -81,36 +82,58 @@ fn machine_of(m: HostMachine) -> Machine {
     }
 }
 
-// The machine after a call, or as it was given where a flag is out of range.
-fn after(given: HostMachine, m: Machine) -> HostMachine {
-    if !flags(given) {
-        return given;
-    }
-    numbers_of(m)
+fn flags(m: HostMachine) -> bool
+    ensures { λ r. ⌜ r ≡ flags m ⌝ }
+{
+    m.write < 2 && m.latch < 2
 }
 
+// The machine that a call works on. Where a flag is out of range its mode is so too: the call answers what comes before 16, or 16.
+fn taken(m: HostMachine) -> Machine
+    ensures { λ r. ⌜ r ≡ taken m ⌝ }
+{
+    let mut n = machine_of(m);
+    if !flags(m) {
+        n.mode = 0;
+    }
+    n
+}
+
+// What a call left of the machine that it worked on; of one with a flag out of range it left everything.
+fn given_back(m: HostMachine, n: Machine) -> HostMachine
+    ensures { λ r. ⌜ r ≡ given-back m n ⌝ }
+{
+    if !flags(m) {
+        return m;
+    }
+    numbers_of(n)
+}
+
+// ---- the calls
 #[no_mangle]
-pub extern "C" fn roadparsnip_check(file: &[u16]) -> u8 {
+pub extern "C" fn roadparsnip_check(file: &[u16]) -> u8
+    ensures { λ r. ⌜ Promise-check (now (file .entry)) r ⌝ }
+{
     display::check(file)
 }
 
 #[no_mangle]
-pub extern "C" fn roadparsnip_fresh() -> HostMachine {
+pub extern "C" fn roadparsnip_fresh() -> HostMachine
+    ensures { λ r. ⌜ Promise-host-fresh r ⌝ }
+{
     numbers_of(display::fresh())
 }
 
 #[no_mangle]
-pub extern "C" fn roadparsnip_start(m: HostMachine, address: u16) -> HostStarted {
-    let started = display::start(machine_of(m), address);
+pub extern "C" fn roadparsnip_start(m: HostMachine, address: u16) -> HostStarted
+    ensures { λ r. ⌜ Promise-host-start m address r ⌝ }
+{
+    let started = display::start(taken(m), address);
+    let machine = given_back(m, started.machine);
     HostStarted {
-        machine: after(m, started.machine),
+        machine,
         answer: started.answer,
     }
-}
-
-#[no_mangle]
-pub extern "C" fn roadparsnip_step(file: &[u16], m: HostMachine, image: &mut [u8]) -> HostRan {
-    roadparsnip_run(file, m, image, 1)
 }
 
 #[no_mangle]
@@ -119,10 +142,13 @@ pub extern "C" fn roadparsnip_run(
     m: HostMachine,
     image: &mut [u8],
     budget: u32,
-) -> HostRan {
-    let ran = display::run(file, machine_of(m), image, budget);
+) -> HostRan
+    ensures { λ r. ⌜ Promise-host-run (plain (now (file .entry))) m (now (image .entry)) budget r (now (image .exit)) ⌝ }
+{
+    let ran = display::run(file, taken(m), image, budget);
+    let machine = given_back(m, ran.machine);
     HostRan {
-        machine: after(m, ran.machine),
+        machine,
         steps: ran.counts.steps,
         words: ran.counts.words,
         stores: ran.counts.stores,
@@ -131,12 +157,24 @@ pub extern "C" fn roadparsnip_run(
 }
 
 #[no_mangle]
-pub extern "C" fn roadparsnip_clear(image: &mut [u8]) -> u8 {
-    display::clear(image)
+pub extern "C" fn roadparsnip_step(file: &[u16], m: HostMachine, image: &mut [u8]) -> HostRan
+    ensures { λ r. ⌜ Promise-host-step (plain (now (file .entry))) m (now (image .entry)) r (now (image .exit)) ⌝ }
+{
+    roadparsnip_run(file, m, image, 1)
 }
 
 #[no_mangle]
-pub extern "C" fn roadparsnip_read_pixel(image: &[u8], x: i32, y: i32, digit: &mut u8) -> u8 {
+pub extern "C" fn roadparsnip_clear(image: &mut [u8]) -> u8
+    ensures { λ r. ⌜ Promise-clear (now (image .entry)) r (now (image .exit)) ⌝ }
+{
+    display::clear(image)
+}
+
+// The answer is returned, and the digit put into a number that is lent.
+#[no_mangle]
+pub extern "C" fn roadparsnip_read_pixel(image: &[u8], x: i32, y: i32, digit: &mut u8) -> u8
+    ensures { λ r. ⌜ Promise-host-read (now (image .entry)) x y r (now (digit .exit)) ⌝ }
+{
     let read = display::read_pixel(
         image,
         Pixel {

@@ -1,0 +1,3 @@
+pub mod NumberLaws
+pub mod HostLaws
+pub mod Host

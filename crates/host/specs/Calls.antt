@@ -1,0 +1,42 @@
+-- The calls that take a machine in numbers: the rules of document 01's calls, with 16 also where a flag is out of range.
+use Prim.Native.Nat.{ℕ}
+use mathlib.Core.Bool.{not}
+use mathlib.Core.List.{List, [], _∷_}
+use lib.Dec.{eqb}
+use Rattle.definition.specs.Choice.{pick, Test, _when_, firstOf, joined}
+use Rattle.definition.specs.Image.{Left, left}
+use Rattle.definition.specs.File.{fileDoors}
+use Rattle.definition.specs.Machine.{startedAt}
+use Rattle.definition.specs.Run.{State, begun, run}
+use Rattle.definition.specs.Calls.{Lent, given, imageDoors, budgetDoors, runningDoors}
+use Rattle.host.specs.Numbers.{numbersOf, machineOf, allRanged}
+use Rattle.host.specs.declared.HostMachine.{HostMachine}
+use Rattle.host.specs.declared.HostStarted.{HostStarted}
+use Rattle.host.specs.declared.HostRan.{HostRan}
+
+unfoldable pub numberDoors : HostMachine → List Test
+numberDoors m = 16 when not (allRanged m) ∷ []
+
+unfoldable pub hostStart : HostMachine → ℕ → HostStarted
+hostStart m a =
+    let n = firstOf (numberDoors m) in
+    record { machine = pick (eqb n 0) (numbersOf (startedAt (machineOf m) a)) m; answer = n }
+
+-- 11, 12 to 15, 16, 17, 28
+unfoldable pub hostDoors : Lent → HostMachine → List ℕ → ℕ → List Test
+hostDoors l m im b = joined (imageDoors im ∷ fileDoors (l .file) ∷ numberDoors m ∷ budgetDoors b ∷ runningDoors (machineOf m) ∷ [])
+
+unfoldable pub hostDoor : Lent → HostMachine → List ℕ → ℕ → ℕ
+hostDoor l m im b = firstOf (hostDoors l m im b)
+
+abbrev pub hostAnswered : State → Left HostRan
+hostAnswered s =
+    left (record { machine = numbersOf (s .machine); steps = s .counts .steps; words = s .counts .words; stores = s .counts .stores; answer = s .machine .status }) (s .image)
+
+abbrev pub hostTurnedAway : HostMachine → List ℕ → ℕ → Left HostRan
+hostTurnedAway m im n = left (record { machine = m; steps = 0; words = 0; stores = 0; answer = n }) im
+
+unfoldable pub hostRun : Lent → HostMachine → List ℕ → ℕ → Left HostRan
+hostRun l m im b =
+    let ran = hostAnswered (run (given l) b (begun (machineOf m) im)) in
+    pick (eqb (hostDoor l m im b) 0) ran (hostTurnedAway m im (hostDoor l m im b))
