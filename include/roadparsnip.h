@@ -2,7 +2,7 @@
 
    Every call takes any numbers: nothing has to hold before a call but what C itself asks, that a pointer with a length leads
    to so many elements (a null pointer goes with length 0). Every call ends, keeps nothing that it was lent, and allocates nothing.
-   The library has no state: calls on different images may run at the same time. Link with target/staticlib/libhost.a, on x86-64. */
+   The library has no state: calls on different images may run at the same time. Link with libroadparsnip.a, on x86-64: ./build makes it. */
 #ifndef ROADPARSNIP_H
 #define ROADPARSNIP_H
 

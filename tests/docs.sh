@@ -28,7 +28,7 @@ sed -nE '/^[a-z]+\/[a-z0-9]+(_[a-z0-9]+)+$/p' "$work/promised" >>"$work/edits"
 while IFS=/ read -r crate edit; do
     [ -f "crates/$crate/must-fail/$edit.edit" ] || { echo "docs/ names the edit $edit of $crate, which is not there"; failed=1; }
 done <"$work/edits"
-for crate in items orders machine run doors display; do
+for crate in items orders machine run doors display host; do
     for edit in crates/"$crate"/must-fail/*.edit; do
         grep -qx -e "$crate/$(basename "$edit" .edit)" "$work/promised" || { echo "docs/PROMISES.md does not name $edit"; failed=1; }
     done
@@ -40,15 +40,21 @@ while read -r call; do
     grep -qx -e "Promise-$call" "$work/promised" && grep -qx -e "one-$call" "$work/promised" && grep -q "Promise-$call " crates/display/src/lib.rt ||
         { echo "docs/PROMISES.md or crates/display does not name Promise-$call, or its theorem one-$call"; failed=1; }
 done <"$work/promises"
+sed -nE 's/^abbrev pub Promise-(host-[a-z]+) :.*/\1/p' crates/host/specs/Promises.antt >"$work/promises"
+while read -r call; do
+    grep -qx -e "Promise-$call" "$work/promised" && grep -qx -e "one-$call" "$work/promised" && grep -q "Promise-$call " crates/host/src/lib.rt &&
+        grep -q "^pub one-$call :" crates/host/proofs/Host.antt ||
+        { echo "docs/PROMISES.md or crates/host does not name Promise-$call, or its theorem one-$call"; failed=1; }
+done <"$work/promises"
 
 # `crate::function`: in that crate's source; and each that is public is named
 sed -nE 's/^([a-z]+)::([a-z_0-9]+)$/\1 \2/p' "$work/named" >"$work/functions"
 while read -r crate function; do
-    grep -Eq "^(pub )?fn $function\(" "crates/$crate/src/lib.rt" 2>/dev/null ||
+    grep -Eq "^(pub )?(extern \"C\" )?fn $function\(" "crates/$crate/src/lib.rt" 2>/dev/null ||
         { echo "$doc names the function $crate::$function, which is not there"; failed=1; }
 done <"$work/functions"
-for crate in units image file words vector items orders machine run doors display line text; do
-    sed -nE "s/^pub fn ([a-z_0-9]+)\(.*/$crate::\1/p" "crates/$crate/src/lib.rt"
+for crate in units image file words vector items orders machine run doors display host line text; do
+    sed -nE "s/^pub (extern \"C\" )?fn ([a-z_0-9]+)\(.*/$crate::\2/p" "crates/$crate/src/lib.rt"
 done >"$work/public"
 while read -r function; do
     grep -qx -e "$function" "$work/named" || { echo "$doc does not name the function $function"; failed=1; }

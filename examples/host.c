@@ -1,0 +1,123 @@
+/* A host program: draws a chart of twelve weeks and prints it, and then hands over what every call must refuse. Where a call does not answer as it
+   should it says so and ends with status 1. docs/HOST.md says how to compile it; host.out is what it prints. */
+#include "roadparsnip.h"
+
+#include <stdio.h>
+#include <string.h>
+
+/* The header, 4 words; an axis of pixels in value 1; then a point for each week, two pixels apart, week zero in the first column. Words are octal. */
+static const uint16_t chart[] = {
+    1, 1, 4, 24,
+    0116400, 0, 0, 0110000, 040054, 0,
+    0117400, 0, 0, 0174104, 0124000,
+    040006, 040010, 040012, 040014, 040016, 040016, 040014, 040012, 040010, 040006, 040004, 040004,
+    0172000,
+};
+enum { CHART = sizeof chart / sizeof chart[0] };
+
+static uint8_t image[ROADPARSNIP_IMAGE_BYTES], before[ROADPARSNIP_IMAGE_BYTES];
+
+static int draw(void) {
+    uint8_t digit;
+    if (roadparsnip_check(chart, CHART) != ROADPARSNIP_DONE) return 1;
+    if (roadparsnip_clear(image, sizeof image) != ROADPARSNIP_DONE) return 1;
+
+    /* in slices of five steps, as a host with other work does it */
+    roadparsnip_ran ran;
+    unsigned steps = 0, words = 0, stores = 0;
+    roadparsnip_machine machine = roadparsnip_fresh();
+    do {
+        ran = roadparsnip_run(chart, CHART, machine, image, sizeof image, 5);
+        machine = ran.machine;
+        steps += ran.steps, words += ran.words, stores += ran.stores;
+    } while (ran.answer == ROADPARSNIP_DONE);
+
+    /* the top row first: y grows upward */
+    for (int32_t y = 8; y >= 0; y--) {
+        for (int32_t x = 0; x < 24; x++) {
+            if (roadparsnip_read_pixel(image, sizeof image, x, y, &digit) != ROADPARSNIP_DONE) return 1;
+            putchar(" -+#"[digit]);
+        }
+        putchar('\n');
+    }
+    printf("answer %d, %u steps, %u words, %u stores, counter %d, X %d, Y %d\n", ran.answer, steps, words, stores, machine.counter, (int)machine.x,
+           (int)machine.y);
+    return ran.answer != ROADPARSNIP_STOPPED;
+}
+
+/* ---- what is refused */
+static int asked, wrong;
+
+static void expect(const char *what, int holds) {
+    asked++;
+    if (holds) return;
+    printf("not as it should be: %s\n", what);
+    wrong++;
+}
+
+static int unchanged(void) { return memcmp(image, before, sizeof image) == 0; }
+
+/* A run that is turned away gives the machine back as it was, counts nothing and draws nothing. */
+static int away(roadparsnip_ran ran, roadparsnip_machine given, int answer) {
+    return ran.answer == answer && memcmp(&ran.machine, &given, sizeof given) == 0 && ran.steps == 0 && ran.words == 0 && ran.stores == 0 && unchanged();
+}
+
+static void refuse_files(roadparsnip_machine m) {
+    uint16_t file[CHART];
+    memcpy(file, chart, sizeof chart);
+    expect("check of no file is 12", roadparsnip_check(NULL, 0) == ROADPARSNIP_SHORT_FILE);
+    expect("check of half a header is 12", roadparsnip_check(chart, 3) == ROADPARSNIP_SHORT_FILE);
+    expect("check of a cut file is 15", roadparsnip_check(chart, CHART - 1) == ROADPARSNIP_BAD_SEGMENT);
+    expect("run of no file is 12", away(roadparsnip_run(NULL, 0, m, image, sizeof image, 9), m, ROADPARSNIP_SHORT_FILE));
+    expect("step of a cut file is 15", away(roadparsnip_step(chart, CHART - 1, m, image, sizeof image), m, ROADPARSNIP_BAD_SEGMENT));
+    file[1] = 9;
+    expect("nine segments are 14", away(roadparsnip_run(file, CHART, m, image, sizeof image, 9), m, ROADPARSNIP_BAD_COUNT));
+    file[0] = 2;
+    expect("another tag is 13", away(roadparsnip_run(file, CHART, m, image, sizeof image, 9), m, ROADPARSNIP_BAD_TAG));
+}
+
+static int reads(const uint8_t *from, size_t bytes, int32_t x, int32_t y, int answer) {
+    uint8_t digit = 9;
+    return roadparsnip_read_pixel(from, bytes, x, y, &digit) == answer && digit == 0;
+}
+
+static void refuse_images(roadparsnip_machine m) {
+    expect("clear of no image is 11", roadparsnip_clear(NULL, 0) == ROADPARSNIP_BAD_IMAGE);
+    expect("clear of a short image is 11", roadparsnip_clear(image, sizeof image - 1) == ROADPARSNIP_BAD_IMAGE && unchanged());
+    expect("run into no image is 11", away(roadparsnip_run(chart, CHART, m, NULL, 0, 9), m, ROADPARSNIP_BAD_IMAGE));
+    expect("11 comes before 12", away(roadparsnip_step(NULL, 0, m, image, sizeof image - 1), m, ROADPARSNIP_BAD_IMAGE));
+    expect("read of no image is 11", reads(NULL, 0, 0, 0, ROADPARSNIP_BAD_IMAGE));
+    expect("left of the field is 31", reads(image, sizeof image, -1, 0, ROADPARSNIP_OUTSIDE));
+    expect("below the field is 31", reads(image, sizeof image, 0, -1, ROADPARSNIP_OUTSIDE));
+    expect("right of the field is 31", reads(image, sizeof image, ROADPARSNIP_SIDE, 0, ROADPARSNIP_OUTSIDE));
+    expect("above the field is 31", reads(image, sizeof image, 0, ROADPARSNIP_SIDE, ROADPARSNIP_OUTSIDE));
+    expect("far away is 31", reads(image, sizeof image, INT32_MIN, INT32_MAX, ROADPARSNIP_OUTSIDE));
+}
+
+static void refuse_machine(const char *what, roadparsnip_machine m) {
+    roadparsnip_started started = roadparsnip_start(m, 0);
+    expect(what, started.answer == ROADPARSNIP_BAD_MACHINE && memcmp(&started.machine, &m, sizeof m) == 0);
+    expect(what, away(roadparsnip_run(chart, CHART, m, image, sizeof image, 9), m, ROADPARSNIP_BAD_MACHINE));
+    expect(what, away(roadparsnip_step(chart, CHART, m, image, sizeof image), m, ROADPARSNIP_BAD_MACHINE));
+}
+
+static void refuse_machines(const roadparsnip_machine fresh) {
+    roadparsnip_machine m;
+#define OUT(field, number) (m = fresh, m.field = (number), refuse_machine(#field " " #number " is 16", m))
+    OUT(x, -4097), OUT(x, 4096), OUT(x, INT32_MIN), OUT(y, -4097), OUT(y, 4096), OUT(y, INT32_MAX), OUT(mode, 0), OUT(mode, 7), OUT(mode, 254);
+    OUT(value, 4), OUT(value, 255), OUT(write, 2), OUT(write, 255), OUT(latch, 2), OUT(latch, 255), OUT(increment, 64), OUT(increment, 255);
+    OUT(status, 3), OUT(status, 20), OUT(status, 28), OUT(status, 255);
+    expect("a budget too large is 17", away(roadparsnip_run(chart, CHART, fresh, image, sizeof image, ROADPARSNIP_MOST_STEPS + 1), fresh, ROADPARSNIP_BAD_BUDGET));
+    m = fresh, m.status = ROADPARSNIP_STOPPED;
+    expect("a machine that has stopped is 28", away(roadparsnip_step(chart, CHART, m, image, sizeof image), m, ROADPARSNIP_NOT_RUNNING));
+}
+
+int main(void) {
+    if (draw() != 0) return 1;
+    memcpy(before, image, sizeof image);
+    refuse_files(roadparsnip_fresh());
+    refuse_images(roadparsnip_fresh());
+    refuse_machines(roadparsnip_fresh());
+    printf("%d of %d refusals are as they should be, and nothing that was lent has changed\n", asked - wrong, asked);
+    return wrong != 0;
+}
