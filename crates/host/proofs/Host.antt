@@ -6,14 +6,12 @@ use mathlib.Core.List.{List}
 use mathlib.Core.Path.{_≡_, sym, ap, _∙_}
 use lib.ListN.{length}
 use lib.IntN.{ℤ}
-use Rattle.definition.specs.Image.{imageBytes, Left, left}
+use Rattle.definition.specs.Image.{imageBytes, Left}
 use Rattle.definition.specs.Calls.{Lent, plain, checkCall, startCall, runCall}
 use Rattle.definition.specs.declared.Machine.{Machine}
-use Rattle.definition.specs.declared.Ran.{Ran}
-use Rattle.definition.specs.declared.Started.{Started}
 use Rattle.definition.specs.declared.Read.{Read}
 use Rattle.host.specs.Numbers.{numbersOf, flags}
-use Rattle.host.specs.Calls.{hostStart, hostTurnedAway, hostRun}
+use Rattle.host.specs.Calls.{hostStart, hostTurnedAway, hostRun, startedNumbers, ranNumbers}
 use Rattle.host.specs.Promises.{Promise-host-fresh, Promise-host-start, Promise-host-run, Promise-host-step, Promise-host-read}
 use Rattle.host.specs.declared.HostMachine.{HostMachine}
 use Rattle.host.specs.declared.HostRan.{HostRan}
@@ -39,14 +37,6 @@ pub one-host-read : (im : List ℕ) (x y : ℤ) {n n′ d d′ : ℕ} → Promis
 one-host-read im x y p q = (ap (λ (r : Read). r .answer) (p ∙ sym q), ap (λ (r : Read). r .digit) (p ∙ sym q))
 
 -- ==== the calls of document 01, in numbers
-abbrev pub startedNumbers : Started → HostStarted
-startedNumbers s = record { machine = numbersOf (s .machine); answer = s .answer }
-
-abbrev pub ranNumbers : Left Ran → Left HostRan
-ranNumbers l =
-    let r = l .result in
-    left (record { machine = numbersOf (r .machine); steps = r .counts .steps; words = r .counts .words; stores = r .counts .stores; answer = r .answer }) (l .image)
-
 pub host-start-is-start : (m : Machine) (a : ℕ) → hostStart (numbersOf m) a ≡ startedNumbers (startCall m a)
 host-start-is-start = laws.start-of-numbers
 

@@ -24,7 +24,7 @@ use Rattle.definition.specs.declared.Started.{Started}
 use Rattle.definition.specs.declared.Read.{Read}
 use Rattle.doors.proofs.DoorLaws.{file-passed, machine-shut, opened}
 use Rattle.host.specs.Numbers.{numbersOf, machineOf, flags, allRanged, taken, given-back}
-use Rattle.host.specs.Calls.{numberDoors, hostStart, hostDoors, hostDoor, hostAnswered, hostTurnedAway, hostRun}
+use Rattle.host.specs.Calls.{numberDoors, hostStart, hostDoors, hostDoor, hostAnswered, hostTurnedAway, hostRun, startedNumbers, ranNumbers}
 use Rattle.host.specs.Promises.{Promise-host-start, Promise-host-run, Promise-host-read}
 use Rattle.host.specs.declared.HostMachine.{HostMachine}
 use Rattle.host.specs.declared.HostRan.{HostRan}
@@ -98,13 +98,10 @@ module _ (m : Machine) where
   back : (n : Machine) → given-back (numbersOf m) n ≡ numbersOf n
   back n = sym (in-numbers (numbersOf m) n (flags-of-numbers m) refl)
 
-  pub start-of-numbers : (a : ℕ) → hostStart (numbersOf m) a ≡ record { machine = numbersOf (startCall m a .machine); answer = startCall m a .answer }
+  pub start-of-numbers : (a : ℕ) → hostStart (numbersOf m) a ≡ startedNumbers (startCall m a)
   start-of-numbers a = sym (whole-start (numbersOf m) a) ∙ rw (taken-back, back (startCall m a .machine))
 
-  pub run-of-numbers : (f im : List ℕ) (b : ℕ)
-      → let l = runCall (plain f) m im b in
-      hostRun (plain f) (numbersOf m) im b
-      ≡ left (record { machine = numbersOf (l .result .machine); steps = l .result .counts .steps; words = l .result .counts .words; stores = l .result .counts .stores; answer = l .result .answer }) (l .image)
+  pub run-of-numbers : (f im : List ℕ) (b : ℕ) → hostRun (plain f) (numbersOf m) im b ≡ ranNumbers (runCall (plain f) m im b)
   run-of-numbers f im b = sym (whole-run f (numbersOf m) im b) ∙ rw (taken-back, back (runCall (plain f) m im b .result .machine))
 
 -- ---- with a flag out of range

@@ -9,6 +9,8 @@ use Rattle.definition.specs.File.{fileDoors}
 use Rattle.definition.specs.Machine.{startedAt}
 use Rattle.definition.specs.Run.{State, begun, run}
 use Rattle.definition.specs.Calls.{Lent, given, imageDoors, budgetDoors, runningDoors}
+use Rattle.definition.specs.declared.Ran.{Ran}
+use Rattle.definition.specs.declared.Started.{Started}
 use Rattle.host.specs.Numbers.{numbersOf, machineOf, allRanged}
 use Rattle.host.specs.declared.HostMachine.{HostMachine}
 use Rattle.host.specs.declared.HostStarted.{HostStarted}
@@ -40,3 +42,12 @@ unfoldable pub hostRun : Lent → HostMachine → List ℕ → ℕ → Left Host
 hostRun l m im b =
     let ran = hostAnswered (run (given l) b (begun (machineOf m) im)) in
     pick (eqb (hostDoor l m im b) 0) ran (hostTurnedAway m im (hostDoor l m im b))
+
+-- what document 01's calls answer, in numbers
+abbrev pub startedNumbers : Started → HostStarted
+startedNumbers s = record { machine = numbersOf (s .machine); answer = s .answer }
+
+abbrev pub ranNumbers : Left Ran → Left HostRan
+ranNumbers l =
+    let r = l .result in
+    left (record { machine = numbersOf (r .machine); steps = r .counts .steps; words = r .counts .words; stores = r .counts .stores; answer = r .answer }) (l .image)
