@@ -5,11 +5,13 @@
 
 mod answer;
 pub mod cases;
+pub mod fault;
 mod file;
 pub mod files;
 mod image;
 mod machine;
 pub mod parts;
+pub mod picture;
 pub mod plot;
 mod run;
 mod unit;

@@ -1,4 +1,5 @@
 //! The command: `second plot` reads a display file and prints its line,
+//! `second picture` and `second fault` write its screen as a PGM, right and with the old fault,
 //! `second cases SEED COUNT` prints random files with theirs,
 //! `second files SEED COUNT DIR` writes random files and a list of their lines, and
 //! `second parts SEED DIR [COUNT]` writes cases for the parts of an implementation.
@@ -10,13 +11,17 @@ use std::path::{Path, PathBuf};
 use std::process::ExitCode;
 
 use second::cases::cases;
+use second::fault::fault;
 use second::files::files;
 use second::parts::{parts, USUAL_COUNT};
+use second::picture::picture;
 use second::plot::{plot, INPUT_LIMIT};
 
 /// What the arguments ask for.
 enum Task {
     Plot,
+    /// A screen, by the function that draws it.
+    Screen(fn(&[u8]) -> Vec<u8>),
     Cases {
         seed: u64,
         count: usize,
@@ -38,7 +43,8 @@ fn main() -> ExitCode {
         Some(task) => task,
         None => {
             eprintln!(
-                "Call it as `second plot`, with a display file on standard input, \
+                "Call it as `second plot`, `second picture` or `second fault`, \
+                 with a display file on standard input, \
                  as `second cases SEED COUNT`, with two whole numbers, \
                  as `second files SEED COUNT DIR`, with a folder to write to, \
                  or as `second parts SEED DIR [COUNT]`, with such a folder too."
@@ -48,6 +54,7 @@ fn main() -> ExitCode {
     };
     let done = match task {
         Task::Plot => plot_standard_input(),
+        Task::Screen(screen) => draw_standard_input(screen),
         Task::Cases { seed, count } => print_cases(seed, count),
         Task::Files {
             seed,
@@ -74,6 +81,8 @@ fn task() -> Option<Task> {
     let arguments: Option<Vec<_>> = arguments.iter().map(|word| word.to_str()).collect();
     match arguments?.as_slice() {
         ["plot"] => Some(Task::Plot),
+        ["picture"] => Some(Task::Screen(picture)),
+        ["fault"] => Some(Task::Screen(fault)),
         ["cases", seed, count] => Some(Task::Cases {
             seed: seed.parse().ok()?,
             count: count.parse().ok()?,
@@ -98,11 +107,19 @@ fn task() -> Option<Task> {
 }
 
 fn plot_standard_input() -> io::Result<()> {
+    writeln!(io::stdout(), "{}", plot(&standard_input()?))
+}
+
+fn draw_standard_input(screen: fn(&[u8]) -> Vec<u8>) -> io::Result<()> {
+    io::stdout().write_all(&screen(&standard_input()?))
+}
+
+fn standard_input() -> io::Result<Vec<u8>> {
     let mut bytes = Vec::new();
     // One byte past the limit is enough to see that the input is too long.
     let most = INPUT_LIMIT as u64 + 1;
     io::stdin().lock().take(most).read_to_end(&mut bytes)?;
-    writeln!(io::stdout(), "{}", plot(&bytes))
+    Ok(bytes)
 }
 
 fn print_cases(seed: u64, count: usize) -> io::Result<()> {

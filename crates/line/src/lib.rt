@@ -31,7 +31,7 @@ fn word_of(low: u8, high: u8) -> u16
 }
 
 // Puts the words of the bytes at the start of a list that has room for them, and answers how many they are.
-fn words_of(bytes: &[u8], words: &mut [u16]) -> usize
+pub fn words_of(bytes: &[u8], words: &mut [u16]) -> usize
     requires { ⌜ length (now bytes) / 2 ≤ length (now words) ⌝ }
     ensures { λ r. ⌜ Counts r (now (words .exit)) ⌝ }
     ensures { λ r. ⌜ take r (now (words .exit)) ≡ wordsIn (now (bytes .entry)) ⌝ }

@@ -1,0 +1,34 @@
+-- The screen of an input: refused by 19, or else what the run of its words leaves.
+use Prim.Native.Nat.{ℕ, _%_, _≤_, _<_}
+use mathlib.Core.Bool.{Bool, true, false, not, _||_}
+use mathlib.Core.List.{List}
+use mathlib.Core.Path.{_≡_, refl, ap}
+use lib.Dec.{eqb}
+use lib.ListN.{length}
+use borrow.Author.Tests.{lt-ltb, le-ltb, eq-eqb, ne-eqb}
+use Rattle.definition.specs.Choice.{firstOf}
+use Rattle.definition.specs.Image.{blank, Left, left}
+use Rattle.definition.specs.Machine.{fresh}
+use Rattle.definition.specs.Calls.{plain, runCall}
+use Rattle.definition.specs.Plot.{wordsIn, inputDoors}
+use Rattle.definition.specs.declared.Machine.{Machine}
+use Rattle.definition.specs.declared.Ran.{Ran}
+use Rattle.screen.specs.Screen.{screenBudget, drawing}
+
+module _ (bytes : List ℕ) {image : List ℕ} (e : image ≡ blank) where
+  pub odd : (length bytes % 2 ≡ 0 → ⊥) → left 19 image ≡ drawing bytes
+  unfolding drawing inputDoors firstOf
+  odd p = rw (ne-eqb _ _ p, e)
+
+  pub too-long : 65536 < length bytes → left 19 image ≡ drawing bytes
+  unfolding drawing inputDoors firstOf
+  too-long p = rw (lt-ltb _ _ p, whichever (not (eqb (length bytes % 2) 0)), e)
+    where
+      whichever : (t : Bool) → t || true ≡ true
+      whichever true = refl
+      whichever false = refl
+
+  pub ran : length bytes % 2 ≡ 0 → length bytes ≤ 65536 → {f after : List ℕ} {m : Machine} {b : ℕ} {r : Ran} → f ≡ wordsIn bytes → m ≡ fresh → b ≡ screenBudget
+      → left r after ≡ runCall (plain f) m image b → left (r .answer) after ≡ drawing bytes
+  unfolding drawing inputDoors firstOf
+  ran even p ef em eb er = rw (eq-eqb _ _ even, le-ltb _ _ p) (ap (λ (l : Left Ran). left (l .result .answer) (l .image)) (rw (ef, em, e, eb) at er))

@@ -1,0 +1,99 @@
+//! The fault of the interpreter that was bought before: in the graph modes it stepped along the axis
+//! first and plotted then, so that every point stood one increment too far.
+
+use crate::answer::Answer;
+use crate::file::File;
+use crate::image::IMAGE_BYTES;
+use crate::machine::{fresh, Machine};
+use crate::picture::{pgm, words, BUDGET};
+use crate::run::{step, Outcome};
+use crate::unit::Unit;
+
+const GRAPH_X: u8 = 4;
+const GRAPH_Y: u8 = 5;
+/// Set in every word that is no data word.
+const CONTROL: u16 = 1 << 15;
+
+/// The screen of a display file as that interpreter drew it.
+pub fn fault(bytes: &[u8]) -> Vec<u8> {
+    let mut image = vec![0; IMAGE_BYTES];
+    if let Some(words) = words(bytes) {
+        run_late(&words, &mut image);
+    }
+    pgm(&image)
+}
+
+fn run_late(words: &[u16], image: &mut [u8]) {
+    let mut machine = fresh();
+    for _ in 0..BUDGET {
+        let outcome = step_late(words, machine, image);
+        if outcome.answer != Answer::Done {
+            return;
+        }
+        machine = outcome.machine;
+    }
+}
+
+/// A point of a graph is plotted where the growth has already led, and then nothing grows.
+fn step_late(words: &[u16], machine: Machine, image: &mut [u8]) -> Outcome {
+    let growth = Unit(i64::from(machine.increment));
+    let (x, y) = match machine.mode {
+        GRAPH_X if is_data(words, machine.counter) => (machine.x, machine.y + growth),
+        GRAPH_Y if is_data(words, machine.counter) => (machine.x + growth, machine.y),
+        _ => return step(words, machine, image),
+    };
+    let grown = Machine {
+        x,
+        y,
+        increment: 0,
+        ..machine
+    };
+    let mut outcome = step(words, grown, image);
+    outcome.machine.increment = machine.increment;
+    outcome
+}
+
+fn is_data(words: &[u16], counter: u16) -> bool {
+    let word = File::open(words)
+        .ok()
+        .and_then(|file| file.fetch(counter).ok());
+    word.map_or(false, |word| word & CONTROL == 0)
+}
+
+#[cfg(test)]
+mod tests {
+    use super::*;
+    use crate::cases::bytes_of;
+    use crate::picture::picture;
+
+    /// The pixels that are lit, by column and row, from the lower left.
+    fn lit(picture: &[u8]) -> Vec<(usize, usize)> {
+        let body = picture[13..].iter().enumerate();
+        let places = body.filter(|&(_, &digit)| digit != 0);
+        places.map(|(at, _)| (at % 512, 511 - at / 512)).collect()
+    }
+
+    /// A file that sets the position to (10, 20) and the increment to 6, then plots two points.
+    fn graph(mode: u16) -> Vec<u8> {
+        let head = [1, 1, 4, 8, 0o114000, 10, 20, 0o174106];
+        bytes_of(&[&head[..], &[mode, 0o040100, 0o040200, 0o172000][..]].concat())
+    }
+
+    #[test]
+    fn graph_y_is_one_increment_too_far_right() {
+        assert_eq!(lit(&picture(&graph(0o124000))), [(8, 64), (5, 32)]);
+        assert_eq!(lit(&fault(&graph(0o124000))), [(11, 64), (8, 32)]);
+    }
+
+    #[test]
+    fn graph_x_is_one_increment_too_high() {
+        assert_eq!(lit(&picture(&graph(0o120000))), [(64, 13), (32, 10)]);
+        assert_eq!(lit(&fault(&graph(0o120000))), [(64, 16), (32, 13)]);
+    }
+
+    #[test]
+    fn without_a_graph_nothing_differs() {
+        let words = [1, 1, 4, 4, 0o113400, 0o040006, 4, 0o172000];
+        assert_eq!(fault(&bytes_of(&words)), picture(&bytes_of(&words)));
+    }
+}
