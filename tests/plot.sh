@@ -127,6 +127,7 @@ fi
 tree=$work/tree
 mkdir -p "$tree/tools" "$tree/crates/plot/src" "$tree/crates/line/src" "$tree/crates/else/src" "$work/rt" "$work/few"
 cp plot "$tree/plot"
+cp tools/program.sh "$tree/tools/program.sh"
 printf '#!/bin/sh\nexec "$@"\n' >"$tree/tools/run-x86"
 printf 'line: definition\nplot: line io\nelse: line\n' >"$tree/crates.txt"
 touch "$tree/crates/plot/src/main.rt" "$tree/crates/line/src/lib.rt" "$tree/crates/line/src/more.rt" "$tree/crates/else/src/lib.rt"
