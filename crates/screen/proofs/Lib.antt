@@ -1,2 +1,3 @@
 pub mod ScreenLaws
 pub mod PictureLaws
+pub mod PixelLaws

@@ -1,10 +1,10 @@
 -- A picture that is put together from the front: a digit after others of its row, and a row after those above it.
-use Prim.Native.Nat.{ℕ, zero, suc, _+_, _-_, _*_, _<_, _≤_}
+use Prim.Native.Nat.{ℕ, suc, _+_, _-_, _*_, _<_, _≤_}
 use mathlib.Core.List.{List, [], _∷_, _++_, append-nil, append-assoc}
 use mathlib.Core.Path.{_≡_, refl, sym, ap, _∙_}
 use native.Mathlib.Numerals.{add-one}
 use native.Mathlib.Omega.{arith}
-use lib.ListN.{length, set, take, drop}
+use lib.ListN.{length, set, take}
 use lib.Seq.{take-all, take-at, take-suc-set}
 use Rattle.definition.specs.Image.{square, digitAt}
 use Rattle.screen.specs.Screen.{header, row, rows, pgm}
