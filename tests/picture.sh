@@ -82,7 +82,8 @@ shifted=$(awk '
     (($1, $2) in other) { same++; if (other[$1, $2] != $3) wrong++; next }
     !(($1, $2) in left) { wrong++ }
     END { for (place in other) others++; print marks, late, wrong + 0, others - hidden - same }' "$work/right.pixels" "$work/late.pixels")
-[ "$shifted" = '156 156 0 0' ] || fail "with the fault, marks, marks moved, pixels that are wrong and pixels that are missing are $shifted, not 156 156 0 0"
+[ "$shifted" = '156 156 0 0' ] ||
+    fail "with the fault, marks, marks moved, pixels that are wrong and pixels that are missing are $shifted, not 156 156 0 0"
 
 # ---- the pictures of docs/
 # PNG: as a PGM again
@@ -206,4 +207,5 @@ if command -v pnmtopng >/dev/null || command -v python3 >/dev/null; then
     is 0 '' ./picture examples/weeks.df "$work/out/out.png"
     [ "$(head -c 8 "$work/out/out.png" | od -A n -t x1 | tr -d ' ')" = 89504e470d0a1a0a ] || fail 'what ./picture writes to OUT.png is no PNG'
 fi
-echo "picture: $(ls examples/*.df | wc -l) examples and $count random files, $lit of them not blank, agree with second; docs/ shows the fault; ./picture says what is wrong (seed $seed)"
+echo "picture: $(ls examples/*.df | wc -l) examples and $count random files, $lit of them not blank, agree with second (seed $seed)"
+echo 'picture: docs/ shows the fault as second draws it, and ./picture says what is wrong'

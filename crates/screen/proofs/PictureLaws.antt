@@ -29,10 +29,12 @@ module _ (before : List ℕ) (at : ℕ) (image : List ℕ) (y : ℕ) where
 
 -- what is there up to a place, and the rows below y, are the whole
 module _ (image picture whole : List ℕ) where
-  row-more : (after : List ℕ) {at place next y z : ℕ} → at ≡ place → next ≡ place + 512 → y ≡ suc z → take (place + 512) after ≡ take place picture ++ row image z 512
+  row-more : (after : List ℕ) {at place next y z : ℕ} → at ≡ place → next ≡ place + 512 → y ≡ suc z
+      → take (place + 512) after ≡ take place picture ++ row image z 512
       → take at picture ++ rows image y ≡ whole → take next after ++ rows image z ≡ whole
   unfolding rows
-  row-more after {place = place} {z = z} here on above e so = rw (on, e) (append-assoc (take place picture) (row image z 512) (rows image z) ∙ (rw (here, above) at so))
+  row-more after {place = place} {z = z} here on above e so =
+      rw (on, e) (append-assoc (take place picture) (row image z 512) (rows image z) ∙ (rw (here, above) at so))
 
   rows-all : {at y : ℕ} → y ≡ 0 → length picture ≤ at → take at picture ++ rows image y ≡ whole → picture ≡ whole
   unfolding rows
@@ -43,7 +45,8 @@ abbrev pub Down-to : List ℕ → List ℕ → List ℕ → ℕ → Type 0
 Down-to before image picture y = take (13 + 512 * (512 - y)) picture ++ rows image y ≡ take 13 before ++ rows image 512
 
 module _ (before image picture : List ℕ) where
-  pub one-row : (after : List ℕ) {place : ℕ} (y : ℕ) → 0 < y → y ≤ 512 → place ≡ 13 + 512 * (511 - (y - 1)) → take (place + 512) after ≡ take place picture ++ row image (y - 1) 512
+  pub one-row : (after : List ℕ) {place : ℕ} (y : ℕ) → 0 < y → y ≤ 512 → place ≡ 13 + 512 * (511 - (y - 1))
+      → take (place + 512) after ≡ take place picture ++ row image (y - 1) 512
       → Down-to before image picture y → Down-to before image after (y - 1)
   one-row after {place} y h k p e so =
       let here : 13 + 512 * (512 - y) ≡ place = omega arith in
@@ -58,4 +61,6 @@ module _ (before image picture : List ℕ) where
 
 pub whole : (image rest picture : List ℕ) {between : List ℕ} → between ≡ header ++ rest → picture ≡ take 13 between ++ rows image 512 → picture ≡ pgm image
 unfolding pgm
-whole image rest picture b e = e ∙ ap (λ (l : List ℕ). l ++ rows image 512) (ap (λ (l : List ℕ). take 13 l) b ∙ take-at header rest 13 refl)
+whole image rest picture b e =
+    let front = ap (λ (l : List ℕ). take 13 l) b ∙ take-at header rest 13 refl in
+    e ∙ ap (λ (l : List ℕ). l ++ rows image 512) front

@@ -28,7 +28,8 @@ module _ (bytes : List ℕ) {image : List ℕ} (e : image ≡ blank) where
       whichever true = refl
       whichever false = refl
 
-  pub ran : length bytes % 2 ≡ 0 → length bytes ≤ 65536 → {f after : List ℕ} {m : Machine} {b : ℕ} {r : Ran} → f ≡ wordsIn bytes → m ≡ fresh → b ≡ screenBudget
-      → left r after ≡ runCall (plain f) m image b → left (r .answer) after ≡ drawing bytes
+  pub ran : length bytes % 2 ≡ 0 → length bytes ≤ 65536 → {f after : List ℕ} {m : Machine} {b : ℕ} {r : Ran}
+      → f ≡ wordsIn bytes → m ≡ fresh → b ≡ screenBudget → left r after ≡ runCall (plain f) m image b → left (r .answer) after ≡ drawing bytes
   unfolding drawing inputDoors firstOf
-  ran even p ef em eb er = rw (eq-eqb _ _ even, le-ltb _ _ p) (ap (λ (l : Left Ran). left (l .result .answer) (l .image)) (rw (ef, em, e, eb) at er))
+  ran even p ef em eb er =
+      rw (eq-eqb _ _ even, le-ltb _ _ p) (ap (λ (l : Left Ran). left (l .result .answer) (l .image)) (rw (ef, em, e, eb) at er))

@@ -41,7 +41,8 @@ returns-3 : tie.Need-returns-3
 returns-3 c =
     let f = c .before .before in
     let w = f .before .before .before in
-    ran _ (blank-again (w .before .before .before .before)) (omega arith) (omega arith) (w .words-of .ensures .1) (f .fresh .ensures) refl (c .run .ensures)
+    let cleared = blank-again (w .before .before .before .before) in
+    ran _ cleared (omega arith) (omega arith) (w .words-of .ensures .1) (f .fresh .ensures) refl (c .run .ensures)
 
 pub draw-spec : {M : Type 1} → statement M
 draw-spec =

@@ -35,7 +35,9 @@ loop-again : tie.Need-loop-again Inv-loop μ-loop
 loop-again c =
     let l = c .before .before in
     let a = l .before .before .before .args in
-    (omega arith, simp length-set (l .loop .inv .1), one-digit (a .picture .now) (a .at) (a .image .now) (a .y) (l .loop .picture) (l .loop .x) (omega arith) (c .read .ensures) (l .loop .inv .2))
+    let now = l .loop in
+    let more = one-digit (a .picture .now) (a .at) (a .image .now) (a .y) (now .picture) (now .x) (omega arith) (c .read .ensures) (now .inv .2) in
+    (omega arith, simp length-set (now .inv .1), more)
 
 same-length : tie.Need-same-length Inv-loop μ-loop
 same-length c = search needs

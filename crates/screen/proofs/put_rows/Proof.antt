@@ -33,7 +33,9 @@ loop-again c =
     let p = c .before .before in
     let l = p .before .before .before .before in
     let a = l .before .before .before .args in
-    let more = one-row (a .picture .now) (a .image .now) (l .loop .picture) (p .put-row .last .0) (l .loop .y) (omega arith) (omega arith) (p .before .place-of .ensures) (p .put-row .ensures) (l .loop .inv .2) in
+    let now = l .loop in
+    let place = p .before .place-of .ensures in
+    let more = one-row (a .picture .now) (a .image .now) (now .picture) _ (now .y) (omega arith) (omega arith) place (p .put-row .ensures) (now .inv .2) in
     (omega arith, omega (arith, p .put-row .kept), more)
 
 same-length : tie.Need-same-length Inv-loop μ-loop
