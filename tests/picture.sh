@@ -82,8 +82,8 @@ shifted=$(awk '
     (($1, $2) in other) { same++; if (other[$1, $2] != $3) wrong++; next }
     !(($1, $2) in left) { wrong++ }
     END { for (place in other) others++; print marks, late, wrong + 0, others - hidden - same }' "$work/right.pixels" "$work/late.pixels")
-[ "$shifted" = '156 156 0 0' ] ||
-    fail "with the fault, marks, marks moved, pixels that are wrong and pixels that are missing are $shifted, not 156 156 0 0"
+[ "$shifted" = '468 468 0 0' ] ||
+    fail "with the fault, marks, marks moved, pixels that are wrong and pixels that are missing are $shifted, not 468 468 0 0"
 
 # ---- the pictures of docs/
 # PNG: as a PGM again
