@@ -13,6 +13,7 @@ mod machine;
 pub mod parts;
 pub mod picture;
 pub mod plot;
+pub mod replay;
 mod run;
 mod unit;
 pub mod vector;

@@ -1,8 +1,9 @@
 //! The command: `second plot` reads a display file and prints its line,
 //! `second picture` and `second fault` write its screen as a PGM, right and with the old fault,
 //! `second cases SEED COUNT` prints random files with theirs,
-//! `second files SEED COUNT DIR` writes random files and a list of their lines, and
-//! `second parts SEED DIR [COUNT]` writes cases for the parts of an implementation.
+//! `second files SEED COUNT DIR` writes random files and a list of their lines,
+//! `second parts SEED DIR [COUNT]` writes cases for the parts of an implementation, and
+//! `second replay SEED DIR [COUNT]` writes cases for its calls, and a table of what occurs.
 
 use std::env;
 use std::fs;
@@ -16,6 +17,7 @@ use second::files::files;
 use second::parts::{parts, USUAL_COUNT};
 use second::picture::picture;
 use second::plot::{plot, INPUT_LIMIT};
+use second::replay::{self, replay};
 
 /// What the arguments ask for.
 enum Task {
@@ -36,6 +38,11 @@ enum Task {
         folder: PathBuf,
         count: usize,
     },
+    Replay {
+        seed: u64,
+        folder: PathBuf,
+        count: usize,
+    },
 }
 
 fn main() -> ExitCode {
@@ -47,7 +54,8 @@ fn main() -> ExitCode {
                  with a display file on standard input, \
                  as `second cases SEED COUNT`, with two whole numbers, \
                  as `second files SEED COUNT DIR`, with a folder to write to, \
-                 or as `second parts SEED DIR [COUNT]`, with such a folder too."
+                 or as `second parts SEED DIR [COUNT]` or `second replay SEED DIR [COUNT]`, \
+                 with such a folder too."
             );
             return ExitCode::from(2);
         }
@@ -66,6 +74,11 @@ fn main() -> ExitCode {
             folder,
             count,
         } => write_parts(seed, &folder, count),
+        Task::Replay {
+            seed,
+            folder,
+            count,
+        } => write_replay(seed, &folder, count),
     };
     match done {
         Ok(()) => ExitCode::SUCCESS,
@@ -98,6 +111,16 @@ fn task() -> Option<Task> {
             count: USUAL_COUNT,
         }),
         ["parts", seed, folder, count] => Some(Task::Parts {
+            seed: seed.parse().ok()?,
+            folder: PathBuf::from(folder),
+            count: count.parse().ok()?,
+        }),
+        ["replay", seed, folder] => Some(Task::Replay {
+            seed: seed.parse().ok()?,
+            folder: PathBuf::from(folder),
+            count: replay::USUAL_COUNT,
+        }),
+        ["replay", seed, folder, count] => Some(Task::Replay {
             seed: seed.parse().ok()?,
             folder: PathBuf::from(folder),
             count: count.parse().ok()?,
@@ -146,4 +169,11 @@ fn write_parts(seed: u64, folder: &Path, count: usize) -> io::Result<()> {
     fs::write(folder.join("expected"), &parts.expected)?;
     fs::write(folder.join("index"), &parts.index)?;
     write!(io::stdout(), "{}", parts)
+}
+
+fn write_replay(seed: u64, folder: &Path, count: usize) -> io::Result<()> {
+    let replay = replay(seed, count).map_err(|what| io::Error::new(io::ErrorKind::Other, what))?;
+    fs::write(folder.join("cases"), &replay.cases)?;
+    fs::write(folder.join("expected"), &replay.expected)?;
+    fs::write(folder.join("table"), &replay.table)
 }

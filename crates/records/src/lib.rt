@@ -1,5 +1,6 @@
 // Numbers in lists of bytes, low byte first: read from one, written to another. Past its end a list reads 0 and takes nothing.
-// A signed number stands there with 2^31 added.
+// A signed number stands there with 2^31 added. And the digest of a list.
+ghost use Prim.Native.Nat.{_<_};
 
 pub fn byte_at(bytes: &[u8], i: usize) -> u8 {
     if i < bytes.len() {
@@ -31,11 +32,15 @@ fn bits_of(z: i32) -> u32 {
     (z as i64 + 2147483648) as u32
 }
 
-pub fn signed_at(bytes: &[u8], i: usize) -> i32 {
+pub fn long_at(bytes: &[u8], i: usize) -> u32 {
     if i > 65536 {
         return 0;
     }
-    signed_of(long_of(word_at(bytes, i), word_at(bytes, i + 2)))
+    long_of(word_at(bytes, i), word_at(bytes, i + 2))
+}
+
+pub fn signed_at(bytes: &[u8], i: usize) -> i32 {
+    signed_of(long_at(bytes, i))
 }
 
 pub fn put(record: &mut [u8], i: usize, v: u8) {
@@ -69,4 +74,20 @@ pub fn number_of(b: bool) -> u8 {
         return 1;
     }
     0
+}
+
+fn wide(b: u8) -> u64
+    ensures { λ r. ⌜ r < 256 ⌝ }
+{
+    b as u64
+}
+
+pub fn digest(bytes: &[u8]) -> u32 {
+    let mut sum: u64 = 1;
+    let mut i = 0;
+    while i < bytes.len() {
+        sum = (sum * 2654435761 + wide(bytes[i]) + 1) % 4294967291;
+        i += 1;
+    }
+    sum as u32
 }
