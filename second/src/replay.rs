@@ -38,6 +38,9 @@ const MOST_STORES: u64 = 20_000;
 /// The most words of a segment.
 const SEGMENT: usize = 4_096;
 
+/// The bit that lights an item.
+const LIT: u16 = 1 << 14;
+
 /// Cases as bytes, a line for each, and how often each thing occurs.
 #[derive(Debug, PartialEq, Eq)]
 pub struct Replay {

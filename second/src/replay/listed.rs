@@ -2,11 +2,10 @@
 //! Chance decides what may be anything, as the image, the rest of the machine, and bits that are
 //! not read.
 
-use super::{bordered, everywhere, one_segment, ranged, usual, Call, Case, SEGMENT};
+use super::{bordered, everywhere, one_segment, ranged, usual, Call, Case, LIT, SEGMENT};
 use crate::cases::{control, Random, DATA, JUMP};
 use crate::{Machine, Unit, NO_MODE};
 
-const LIT: u16 = 1 << 14;
 const BIT_15: u16 = 1 << 15;
 const MINUS: u16 = 1 << 13;
 const STOP: u16 = BIT_15 | 14 << 11 | 1 << 10;
@@ -532,7 +531,7 @@ fn files() -> Vec<Vec<u16>> {
 /// The words of a move in modes 1 and 6, or in mode 2, unlit.
 fn moves(mode: u8, dx: i64, dy: i64) -> Vec<u16> {
     let minus = |by: i64| u16::from(by < 0);
-    let size = |by: i64| by.abs() as u16;
+    let size = |by: i64| by.unsigned_abs() as u16;
     if mode == 2 {
         vec![minus(dx) << 13 | size(dx), minus(dy) << 13 | size(dy)]
     } else {

@@ -3,16 +3,14 @@
 use std::collections::BTreeMap;
 use std::fmt;
 
-use super::{Call, Case, Told};
+use super::{Call, Case, Told, LIT, SEGMENT};
 use crate::{start, step, Machine, Outcome, Unit, BUDGET_LIMIT, IMAGE_BYTES, NO_MODE};
 
 /// The steps of a run that are looked at.
 const STEPS: u32 = 300;
 
-const SEGMENT_WORDS: usize = 4_096;
 const LOWEST: i64 = -4_096;
 const HIGHEST: i64 = 4_095;
-const LIT: u16 = 1 << 14;
 
 /// What is counted: the rows of the table, and in each what must occur.
 const ROWS: [(&str, &[&str]); 47] = [
@@ -349,10 +347,10 @@ impl Table {
             let broken: Vec<_> = pairs(file).filter(|&pair| breaks(file, pair)).collect();
             if let [(offset, length)] = broken[..] {
                 let (early, end) = (offset + 1 == header(file), offset + length);
-                let long = length == SEGMENT_WORDS + 1 && !early && end <= file.len();
+                let long = length == SEGMENT + 1 && !early && end <= file.len();
                 self.saw_if(row, long, "segment of 4,097");
                 self.saw_if(row, early && end <= file.len(), "begins 1 early");
-                let late = end == file.len() + 1 && !early && length <= SEGMENT_WORDS;
+                let late = end == file.len() + 1 && !early && length <= SEGMENT;
                 self.saw_if(row, late, "ends 1 late");
             }
         }
@@ -367,7 +365,7 @@ impl Table {
         self.saw_if(row, file.len() == header(file), "header alone");
         let empty = spans.iter().any(|&(_, length)| length == 0);
         self.saw_if(row, empty, "segment of length 0");
-        let full = spans.iter().any(|&(_, length)| length == SEGMENT_WORDS);
+        let full = spans.iter().any(|&(_, length)| length == SEGMENT);
         self.saw_if(row, full, "segment of 4,096");
         let to_end = |&(offset, length): &(usize, usize)| offset + length == file.len();
         let last = spans.iter().any(|span| span.1 > 0 && to_end(span));
@@ -646,7 +644,7 @@ fn pairs(file: &[u16]) -> impl Iterator<Item = (usize, usize)> + '_ {
 }
 
 fn breaks(file: &[u16], (offset, length): (usize, usize)) -> bool {
-    offset < header(file) || length > SEGMENT_WORDS || offset + length > file.len()
+    offset < header(file) || length > SEGMENT || offset + length > file.len()
 }
 
 /// The word at an address of a file that was taken, if there is one.
