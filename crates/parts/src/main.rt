@@ -81,27 +81,11 @@ fn write_long(v: u32) -> bool {
 }
 
 fn look_case(head: &[u8], image: &mut [u8; 65536]) -> bool {
-    let sum = digest(image);
+    let sum = records::digest(image);
     if records::byte_at(head, 1) == 1 {
         fill(image, records::byte_at(head, 2));
     }
     write_long(sum)
-}
-
-fn wide(b: u8) -> u64
-    ensures { λ r. ⌜ r < 256 ⌝ }
-{
-    b as u64
-}
-
-fn digest(image: &[u8]) -> u32 {
-    let mut sum: u64 = 1;
-    let mut i = 0;
-    while i < image.len() {
-        sum = (sum * 2654435761 + wide(image[i]) + 1) % 4294967291;
-        i += 1;
-    }
-    sum as u32
 }
 
 fn fill(image: &mut [u8], b: u8) {
