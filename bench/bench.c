@@ -76,6 +76,10 @@ static void read_pixel(int x, int y) {
 
 static void run_turn(void) { run(files); }
 
+static void each_turn(void) {
+    for (int s = 0; s < 8; s++) run(files + s);
+}
+
 static void chart_turn(void) {
     for (int week = 0; week < WEEKS; week++) {
         clear();
@@ -269,10 +273,14 @@ static void mixed(const char *steps) {
 }
 
 /* Eight segments of no-ops: after the last word comes the first. */
+static void eight_segments(display_file *file) {
+    for (int i = 0; i < MOST_WORDS; i++) put(0164000);
+    close_file(file);
+}
+
 static void no_ops(const char *detail) {
     (void)detail;
-    for (int i = 0; i < MOST_WORDS; i++) put(0164000);
-    close_file(files);
+    eight_segments(files);
 }
 
 static void first_wrong(const char *detail) {
@@ -283,6 +291,14 @@ static void first_wrong(const char *detail) {
 static void last_wrong(const char *detail) {
     no_ops(detail);
     files->word[17] = SEGMENT + 1;
+}
+
+static void each_wrong(const char *detail) {
+    (void)detail;
+    for (int s = 0; s < 8; s++) {
+        eight_segments(files + s);
+        files[s].word[3 + 2 * s] = SEGMENT + 1;
+    }
 }
 
 static void from_path(const char *path) {
@@ -337,6 +353,7 @@ static const struct workload {
     {"check", no_ops, check_turn},
     {"first", first_wrong, run_turn},
     {"last", last_wrong, run_turn},
+    {"each", each_wrong, each_turn},
     {"file", from_path, run_turn},
     {"image", wrong_image, run_turn},
     {"machine", wrong_machine, run_turn},
