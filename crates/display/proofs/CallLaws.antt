@@ -34,9 +34,9 @@ module _ (m : Machine) (a : ℕ) where
 
 -- ---- run
 module _ (f : List ℕ) (m : Machine) (im : List ℕ) (b : ℕ) {door : ℕ} (ed : door ≡ runDoor (plain f) m im b) where
-  pub turned-away : (door ≡ 0 → ⊥) → Promise-run (plain f) m im b (record { answer = door; counts = nothing; machine = m }) im
+  pub turned-away : (door ≡ 0 → ⊥) → {r : Ran} → r ≡ record { answer = door; counts = nothing; machine = m } → Promise-run (plain f) m im b r im
   unfolding runCall
-  turned-away p = rw (← ed, ne-eqb _ _ p)
+  turned-away p e = rw (← ed, ne-eqb _ _ p, e)
 
   pub ran : door ≡ 0 → {r : Ran} {im′ : List ℕ} → left r im′ ≡ answered (run (given (plain f)) b (begun m im)) → Promise-run (plain f) m im b r im′
   unfolding runCall

@@ -8,6 +8,7 @@ use definition::Started;
 use definition::Units;
 use units::Index;
 ghost use mathlib.Core.Path.{_≡_};
+ghost use Rattle.definition.specs.Run.{nothing};
 ghost use Rattle.definition.specs.Calls.{plain};
 ghost use Rattle.definition.specs.Promises.{Promise-check, Promise-fresh, Promise-start, Promise-run, Promise-step, Promise-clear, Promise-read};
 
@@ -52,27 +53,38 @@ pub fn start(m: Machine, address: u16) -> Started
     }
 }
 
+// Refused at a door: nothing is counted, and the machine is as given.
+fn turned_away(m: Machine, door: u8) -> Ran
+    ensures { λ r. ⌜ r ≡ record { answer = door; counts = nothing; machine = m } ⌝ }
+{
+    Ran {
+        answer: door,
+        counts: Counts {
+            steps: 0,
+            words: 0,
+            stores: 0,
+        },
+        machine: m,
+    }
+}
+
+// A run of budget 1.
 pub fn step(file: &[u16], m: Machine, image: &mut [u8]) -> Ran
     ensures { λ r. ⌜ Promise-step (plain (now (file .entry))) m (now (image .entry)) r (now (image .exit)) ⌝ }
 {
-    run(file, m, image, 1)
+    let why = doors::run_door(file, m, image, 1);
+    if why != 0 {
+        return turned_away(m, why);
+    }
+    run::run(file, m, image, 1)
 }
 
-// A call refused at a door counts nothing, and the machine is as given.
 pub fn run(file: &[u16], m: Machine, image: &mut [u8], budget: u32) -> Ran
     ensures { λ r. ⌜ Promise-run (plain (now (file .entry))) m (now (image .entry)) budget r (now (image .exit)) ⌝ }
 {
     let door = doors::run_door(file, m, image, budget);
     if door != 0 {
-        return Ran {
-            answer: door,
-            counts: Counts {
-                steps: 0,
-                words: 0,
-                stores: 0,
-            },
-            machine: m,
-        };
+        return turned_away(m, door);
     }
     run::run(file, m, image, budget)
 }

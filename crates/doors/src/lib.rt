@@ -44,16 +44,15 @@ pub fn ranged(m: Machine) -> bool
 pub fn run_door(file: &[u16], m: Machine, image: &[u8], budget: u32) -> u8
     ensures { λ r. ⌜ r ≡ runDoor (plain (now (file .entry))) m (now (image .entry)) budget ⌝ }
 {
-    let wrong = file::check(file);
-    let sound = ranged(m);
     let status = m.status;
     if image.len() != image::BYTES {
         return 11;
     }
+    let wrong = file::check(file);
     if wrong != 0 {
         return wrong;
     }
-    if !sound {
+    if !ranged(m) {
         return 16;
     }
     if MOST_STEPS < budget {

@@ -23,7 +23,7 @@ use Rattle.definition.specs.declared.Ran.{Ran}
 use Rattle.definition.specs.declared.Started.{Started}
 use Rattle.definition.specs.declared.Read.{Read}
 use Rattle.doors.proofs.DoorLaws.{file-passed, machine-shut, opened}
-use Rattle.host.specs.Numbers.{numbersOf, machineOf, flags, allRanged, taken, given-back}
+use Rattle.host.specs.Numbers.{numbersOf, machineOf, flags, allRanged, taken, given-back, ranOf}
 use Rattle.host.specs.Calls.{numberDoors, hostStart, hostDoors, hostDoor, hostAnswered, hostTurnedAway, hostRun, startedNumbers, ranNumbers}
 use Rattle.host.specs.Promises.{Promise-host-start, Promise-host-run, Promise-host-read}
 use Rattle.host.specs.declared.HostMachine.{HostMachine}
@@ -54,9 +54,12 @@ module _ (m : HostMachine) (a : ℕ) where
 
 -- ---- run
 abbrev runNumbers : HostMachine → Left Ran → Left HostRan
-runNumbers m l =
-    let r = l .result in
-    left (record { machine = given-back m (r .machine); steps = r .counts .steps; words = r .counts .words; stores = r .counts .stores; answer = r .answer }) (l .image)
+runNumbers m l = left (ranOf m (l .result)) (l .image)
+
+pub told : (m : HostMachine) (r : Ran) {k : HostMachine} → k ≡ given-back m (r .machine)
+    → record { machine = k; steps = r .counts .steps; words = r .counts .words; stores = r .counts .stores; answer = r .answer } ≡ ranOf m r
+unfolding ranOf
+told m r e = rw e
 
 module _ (f : List ℕ) (m : HostMachine) (im : List ℕ) (b : ℕ) where
   same-door : runDoor (plain f) (taken m) im b ≡ hostDoor (plain f) m im b
@@ -67,7 +70,7 @@ module _ (f : List ℕ) (m : HostMachine) (im : List ℕ) (b : ℕ) where
   flags-open z = ranged-flags m (sym (ranged-taken m) ∙ opened f (taken m) im b z .1)
 
   whole-run : runNumbers m (runCall (plain f) (taken m) im b) ≡ hostRun (plain f) m im b
-  unfolding runCall hostRun
+  unfolding runCall hostRun ranOf
   whole-run = rw (← same-door) (go (eqb (runDoor (plain f) (taken m) im b) 0) refl)
     where
       door : ℕ
@@ -81,8 +84,7 @@ module _ (f : List ℕ) (m : HostMachine) (im : List ℕ) (b : ℕ) where
           rw (← taken-whole m fl refl, ← in-numbers m (run (given (plain f)) b (begun (machineOf m) im) .machine) fl refl)
       go false e = rw (untouched m)
 
-  pub host-ran : {n : Machine} → n ≡ taken m → {r : Ran} {im′ : List ℕ} → left r im′ ≡ runCall (plain f) n im b → {k : HostMachine} → k ≡ given-back m (r .machine)
-      → Promise-host-run (plain f) m im b (record { machine = k; steps = r .counts .steps; words = r .counts .words; stores = r .counts .stores; answer = r .answer }) im′
+  pub host-ran : {n : Machine} → n ≡ taken m → {r : Ran} {im′ : List ℕ} → left r im′ ≡ runCall (plain f) n im b → {k : HostRan} → k ≡ ranOf m r → Promise-host-run (plain f) m im b k im′
   host-ran en er ek = rw ek (ap (runNumbers m) (rw en at er) ∙ whole-run)
 
 -- ---- read
@@ -102,6 +104,7 @@ module _ (m : Machine) where
   start-of-numbers a = sym (whole-start (numbersOf m) a) ∙ rw (taken-back, back (startCall m a .machine))
 
   pub run-of-numbers : (f im : List ℕ) (b : ℕ) → hostRun (plain f) (numbersOf m) im b ≡ ranNumbers (runCall (plain f) m im b)
+  unfolding ranOf
   run-of-numbers f im b = sym (whole-run f (numbersOf m) im b) ∙ rw (taken-back, back (runCall (plain f) m im b .result .machine))
 
 -- ---- with a flag out of range

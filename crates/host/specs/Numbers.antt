@@ -6,7 +6,9 @@ use Rattle.definition.specs.Choice.{pick}
 use Rattle.definition.specs.Units.{units}
 use Rattle.definition.specs.Machine.{ranged, withMode}
 use Rattle.definition.specs.declared.Machine.{Machine}
+use Rattle.definition.specs.declared.Ran.{Ran}
 use Rattle.host.specs.declared.HostMachine.{HostMachine}
+use Rattle.host.specs.declared.HostRan.{HostRan}
 
 abbrev pub number : Bool → ℕ
 number t = pick t 1 0
@@ -35,3 +37,7 @@ taken m = pick (flags m) (machineOf m) (withMode (machineOf m) 0 (m .value))
 -- what a call left of the machine that it worked on, in numbers
 unfoldable pub given-back : HostMachine → Machine → HostMachine
 given-back m n = pick (flags m) (numbersOf n) m
+
+-- what a run or a step answered, in numbers
+unfoldable pub ranOf : HostMachine → Ran → HostRan
+ranOf m r = record { machine = given-back m (r .machine); steps = r .counts .steps; words = r .counts .words; stores = r .counts .stores; answer = r .answer }

@@ -2,11 +2,12 @@
 use definition::Machine;
 use definition::Pixel;
 use definition::Pixels;
+use definition::Ran;
 use definition::Units;
 ghost use mathlib.Core.Path.{_≡_};
 ghost use Rattle.definition.specs.Calls.{plain};
 ghost use Rattle.definition.specs.Promises.{Promise-check, Promise-clear};
-ghost use Rattle.host.specs.Numbers.{number, numbersOf, machineOf, flags, taken, given-back};
+ghost use Rattle.host.specs.Numbers.{number, numbersOf, machineOf, flags, taken, given-back, ranOf};
 ghost use Rattle.host.specs.Promises.{Promise-host-fresh, Promise-host-start, Promise-host-run, Promise-host-step, Promise-host-read};
 
 // The machine in numbers, in an order that leaves no gap between two fields. A flag that is neither 0 nor 1 is out of range.
@@ -109,6 +110,20 @@ fn given_back(m: HostMachine, n: Machine) -> HostMachine
     numbers_of(n)
 }
 
+// What a run or a step answered, in numbers.
+fn ran_of(m: HostMachine, ran: Ran) -> HostRan
+    ensures { λ r. ⌜ r ≡ ranOf m ran ⌝ }
+{
+    let machine = given_back(m, ran.machine);
+    HostRan {
+        machine,
+        steps: ran.counts.steps,
+        words: ran.counts.words,
+        stores: ran.counts.stores,
+        answer: ran.answer,
+    }
+}
+
 // ---- the calls
 #[no_mangle]
 pub extern "C" fn roadparsnip_check(file: &[u16]) -> u8
@@ -145,22 +160,14 @@ pub extern "C" fn roadparsnip_run(
 ) -> HostRan
     ensures { λ r. ⌜ Promise-host-run (plain (now (file .entry))) m (now (image .entry)) budget r (now (image .exit)) ⌝ }
 {
-    let ran = display::run(file, taken(m), image, budget);
-    let machine = given_back(m, ran.machine);
-    HostRan {
-        machine,
-        steps: ran.counts.steps,
-        words: ran.counts.words,
-        stores: ran.counts.stores,
-        answer: ran.answer,
-    }
+    ran_of(m, display::run(file, taken(m), image, budget))
 }
 
 #[no_mangle]
 pub extern "C" fn roadparsnip_step(file: &[u16], m: HostMachine, image: &mut [u8]) -> HostRan
     ensures { λ r. ⌜ Promise-host-step (plain (now (file .entry))) m (now (image .entry)) r (now (image .exit)) ⌝ }
 {
-    roadparsnip_run(file, m, image, 1)
+    ran_of(m, display::step(file, taken(m), image))
 }
 
 #[no_mangle]

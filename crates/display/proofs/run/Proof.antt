@@ -9,11 +9,14 @@ use Rattle.display.proofs.run.Tie as tie
 run-door-requires : tie.Need-run-door-requires
 run-door-requires c κs = search needs
 
+turned-away-requires : tie.Need-turned-away-requires
+turned-away-requires c κs = search needs
+
 same-length : tie.Need-same-length
 same-length c = search needs
 
 returns : tie.Need-returns
-returns c = turned-away _ _ _ _ (c .before .run-door .ensures) (c .if1 .taken)
+returns c = turned-away _ _ _ _ (c .before .before .run-door .ensures) (c .before .if1 .taken) (c .turned-away .ensures)
 
 run-requires : tie.Need-run-requires
 run-requires c κs =
@@ -33,6 +36,7 @@ run-spec =
     tie.close
     (tie.spec
     run-door-requires
+    turned-away-requires
     same-length
     returns
     run-requires

@@ -7,44 +7,48 @@ use Rattle.doors.proofs.DoorLaws.{failed, held, image-shut, file-shut, 
 use Rattle.doors.proofs.run_door.Statement.{statement}
 use Rattle.doors.proofs.run_door.Tie as tie
 
+returns : tie.Need-returns
+returns c = image-shut _ _ _ _ (c .if1 .taken)
+
 check-requires : tie.Need-check-requires
 check-requires c κs = search needs
+
+returns-2 : tie.Need-returns-2
+returns-2 c = file-shut _ _ _ _ (c .before .before .if1 .left) (c .before .check .ensures) (λ z. omega (arith, c .if2 .taken, z))
+
+past : (c : tie.Else2) → let a = c .before .before .before .before .before .args in Past-the-file (a .file .now) (a .m) (a .image .now) (a .budget)
+past c = file-passed _ _ _ _ (c .before .before .if1 .left) (c .before .check .ensures) (omega (arith, c .if2 .left))
 
 ranged-requires : tie.Need-ranged-requires
 ranged-requires c κs = search needs
 
-returns : tie.Need-returns
-returns c = image-shut _ _ _ _ (c .if1 .taken)
-
-returns-2 : tie.Need-returns-2
-returns-2 c = file-shut _ _ _ _ (c .before .if1 .left) (c .before .before .before .check .ensures) (c .if2 .taken)
-
-past : (c : tie.Else2) → let a = c .before .before .before .before .before .before .args in Past-the-file (a .file .now) (a .m) (a .image .now) (a .budget)
-past c = file-passed _ _ _ _ (c .before .if1 .left) (c .before .before .before .check .ensures) (c .if2 .left)
-
 returns-3 : tie.Need-returns-3
-returns-3 c = machine-shut _ _ _ _ (past (c .before)) (failed (c .before .before .before .ranged .ensures) (c .if3 .taken))
+returns-3 c = machine-shut _ _ _ _ (past (c .before .before)) (failed (c .before .ranged .ensures) (c .if3 .taken))
 
 sound : (c : tie.Else3) → ranged (c .before .before .before .before .before .before .before .args .m) ≡ true
-sound c = held (c .before .before .before .ranged .ensures) (c .if3 .left)
+sound c = held (c .before .ranged .ensures) (c .if3 .left)
 
 returns-4 : tie.Need-returns-4
-returns-4 c = budget-shut _ _ _ _ (past (c .before .before)) (sound (c .before)) (omega (arith, c .if4 .taken))
+returns-4 c = budget-shut _ _ _ _ (past (c .before .before .before)) (sound (c .before)) (omega (arith, c .if4 .taken))
 
 returns-5 : tie.Need-returns-5
-returns-5 c = not-running _ _ _ _ (past (c .before .before .before)) (sound (c .before .before)) (omega (arith, c .before .if4 .left)) (c .if5 .taken)
+returns-5 c =
+    let paid = c .before in
+    not-running _ _ _ _ (past (paid .before .before .before)) (sound (paid .before)) (omega (arith, paid .if4 .left)) (c .if5 .taken)
 
 returns-6 : tie.Need-returns-6
-returns-6 c = all-open _ _ _ _ (past (c .before .before .before)) (sound (c .before .before)) (omega (arith, c .before .if4 .left)) (c .if5 .left)
+returns-6 c =
+    let paid = c .before in
+    all-open _ _ _ _ (past (paid .before .before .before)) (sound (paid .before)) (omega (arith, paid .if4 .left)) (c .if5 .left)
 
 pub run-door-spec : {M : Type 1} → statement M
 run-door-spec =
     tie.close
     (tie.spec
-    check-requires
-    ranged-requires
     returns
+    check-requires
     returns-2
+    ranged-requires
     returns-3
     returns-4
     returns-5
