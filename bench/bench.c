@@ -163,7 +163,7 @@ static void line_from(int x, int y, int dx, int dy) {
     long_vector(dx, dy);
 }
 
-/* The chart of examples/weeks.df, as it stands in one of the year's weeks: four levels, two axes, the line of the week, and the points. */
+/* A chart like that of examples/weeks.df, as it stands in one of the year's weeks: four levels, two axes, the line of the week, and the points. */
 static void chart(int now) {
     put(0116400);
     put(96);
