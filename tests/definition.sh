@@ -9,12 +9,11 @@ count=400
 group=25
 
 echo "definition: seed $seed"
-export CARGO_TARGET_DIR="$PWD/target/second"
-cargo build --quiet --release --offline --manifest-path second/Cargo.toml
+second=$(tools/second)
 work=$(mktemp -d)
 trap 'rm -rf "$work"' EXIT
 trap 'exit 1' HUP INT PIPE TERM
-"$CARGO_TARGET_DIR/release/second" cases "$seed" "$count" >"$work/cases"
+"$second" cases "$seed" "$count" >"$work/cases"
 [ "$(wc -l <"$work/cases")" -eq "$count" ] || { echo "definition: second did not print $count files"; exit 1; }
 
 # A repository of its own. Of the definition's proofs only the one that opens the rules: where a rule is changed the

@@ -8,14 +8,13 @@ program=target/bin/parts
 least=450000
 
 echo "parts: seed $seed"
-export CARGO_TARGET_DIR="$PWD/target/second"
-cargo build --quiet --release --offline --manifest-path second/Cargo.toml
+second=$(tools/second)
 work=$(mktemp -d)
 trap 'rm -rf "$work"' EXIT
 trap 'exit 1' HUP INT PIPE TERM
 # what is proved and unchanged is not proved again
 rt check parts >"$work/out" 2>&1 || { tail -n 20 "$work/out"; echo 'parts: the program is not proved'; exit 1; }
-"$CARGO_TARGET_DIR/release/second" parts "$seed" "$work"
+"$second" parts "$seed" "$work"
 cases=$(wc -l <"$work/index")
 [ "$cases" -ge "$least" ] || { echo "parts: second made $cases cases, fewer than $least"; exit 1; }
 

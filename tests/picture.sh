@@ -9,9 +9,7 @@ seed=${SEED:-$(date +%s)}
 count=90
 
 echo "picture: seed $seed"
-export CARGO_TARGET_DIR="$top/target/second"
-cargo build --quiet --release --offline --manifest-path second/Cargo.toml
-second=$CARGO_TARGET_DIR/release/second
+second=$(tools/second)
 work=$(mktemp -d)
 trap 'rm -rf "$work"' EXIT
 trap 'exit 1' HUP INT PIPE TERM

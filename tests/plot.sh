@@ -9,9 +9,7 @@ count=2000
 answers='0 1 2 12 13 14 15 19 21 22 23 24 25 26 27'
 
 echo "plot: seed $seed"
-export CARGO_TARGET_DIR="$top/target/second"
-cargo build --quiet --release --offline --manifest-path second/Cargo.toml
-second=$CARGO_TARGET_DIR/release/second
+second=$(tools/second)
 work=$(mktemp -d)
 trap 'rm -rf "$work"' EXIT
 trap 'exit 1' HUP INT PIPE TERM

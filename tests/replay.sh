@@ -8,9 +8,7 @@ stored=crates/replay
 count=4000
 
 echo "replay: seed $seed"
-export CARGO_TARGET_DIR="$PWD/target/second"
-cargo build --quiet --release --offline --manifest-path second/Cargo.toml
-second=$CARGO_TARGET_DIR/release/second
+second=$(tools/second)
 work=$(mktemp -d)
 trap 'rm -rf "$work"' EXIT
 trap 'exit 1' HUP INT PIPE TERM
