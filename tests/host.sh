@@ -56,5 +56,8 @@ for tool in sh dirname readlink mkdir; do ln -s "$(command -v "$tool")" "$work/f
 says 'call it as ./build, or as ./build FOLDER.' ./build "$work/a" "$work/b"
 says "the folder $work/file/lib cannot be made." ./build "$work/file/lib"
 says 'there is no rt, the command of the Rattle toolchain, to prove and build the library.' env PATH="$work/few" ./build "$work/lib"
-says 'the library is built, but its place could not be written.' sh -c './build "$0/lib" >/dev/full' "$work"
+# with an rt that has nothing left to do
+printf '#!/bin/sh\n' >"$work/few/rt"
+chmod +x "$work/few/rt"
+says 'the library is built, but its place could not be written.' sh -c 'PATH=$0/few:$PATH; ./build "$0/lib" >/dev/full' "$work"
 echo 'host: the programs in C draw their charts, and are refused as they should be'

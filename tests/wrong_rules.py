@@ -14,7 +14,7 @@ import tempfile
 from concurrent.futures import ThreadPoolExecutor
 
 TOP = pathlib.Path(__file__).resolve().parent.parent
-EXAMPLES = ["Opened", "Worked", "Layouts", "Readings", "Runs", "Numbers"]
+EXAMPLES = ["Opened", "Worked", "Layouts", "Readings", "Runs", "Numbers", "Computed"]
 
 # A rule that gives other outcomes, and one that nobody can tell from the right one (docs/DECISIONS.md, 10).
 WRONG, SAME = "wrong", "same"
@@ -215,6 +215,10 @@ def copy(where):
     for path in proofs.iterdir():
         if path.stem not in EXAMPLES:
             path.unlink()
+    computed = (TOP / "crates/demands/proofs/Computed.antt").read_text()
+    for part in ["specs", "proofs"]:
+        computed = computed.replace(f"Rattle.definition.{part}", f"Rattle.definition.{part}")
+    (proofs / "Computed.antt").write_text(computed)
     (proofs / "Lib.antt").write_text("".join(f"pub mod {name}\n" for name in EXAMPLES))
     subprocess.run(["git", "init", "-q", str(where)], check=True)
 

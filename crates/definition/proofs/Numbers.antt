@@ -7,18 +7,22 @@ use lib.IntN.{pos, negsuc}
 use Rattle.definition.specs.Units.{pixel}
 use Rattle.definition.specs.Image.{square, blank}
 use Rattle.definition.specs.Machine.{fresh, withCounter, withMode, withIncrement, withStatus}
-use Rattle.definition.specs.Calls.{plain, checkCall, startCall, runCall, readCall}
+use Rattle.definition.specs.Run.{begun, run}
+use Rattle.definition.specs.Calls.{plain, given, checkCall, startCall, answered, runCall, readCall}
 use Rattle.definition.specs.declared.Machine.{Machine}
 use Rattle.definition.proofs.Opened.{rules}
 use Rattle.definition.proofs.Worked.{file, inMode, dot}
 use Rattle.definition.proofs.Runs.{typed}
 
--- the answer of a run of these words from this machine
+-- the answer of a run of a file from a machine, and of a file of one segment; no image is lent, since no answer of a step depends on one
+abbrev ends : List ℕ → Machine → ℕ → ℕ
+ends f m b = answered (run (given (plain f)) b (begun m [])) .result .answer
+
 abbrev pub answer : List ℕ → Machine → ℕ
-answer words m = runCall (plain (file words)) m blank 9 .result .answer
+answer words m = ends (file words) m 9
 
 -- the answer of a run of the typed program
-abbrev door : Machine → List ℕ → ℕ → ℕ
+abbrev pub door : Machine → List ℕ → ℕ → ℕ
 door m im b = runCall (plain typed) m im b .result .answer
 
 pub runs :
@@ -35,8 +39,8 @@ runs = refl
 -- a second fetch is refused as the first is; a pair cut by the end of its segment goes on in the next one
 pub second-fetches :
     (answer (0o160000 ∷ []) fresh ∷ answer (0o000000 ∷ []) (withMode fresh 2 3) ∷ answer (0o160000 ∷ 0o100000 ∷ []) fresh
-    ∷ runCall (plain (1 ∷ 1 ∷ 4 ∷ 4096 ∷ replicate 4096 0o160000)) (withCounter fresh 8190) blank 1 .result .answer
-    ∷ runCall (plain (1 ∷ 2 ∷ 6 ∷ 4096 ∷ 6 ∷ 1 ∷ replicate 4096 0o160000)) (withCounter fresh 8190) blank 1 .result .answer ∷ [])
+    ∷ ends (1 ∷ 1 ∷ 4 ∷ 4096 ∷ replicate 4096 0o160000) (withCounter fresh 8190) 1
+    ∷ ends (1 ∷ 2 ∷ 6 ∷ 4096 ∷ 6 ∷ 1 ∷ replicate 4096 0o160000) (withCounter fresh 8190) 1 ∷ [])
     ≡ 23 ∷ 23 ∷ 22 ∷ 22 ∷ 0 ∷ []
 unfolding rules
 second-fetches = refl
@@ -73,20 +77,6 @@ pub ranges :
     ≡ 0 ∷ 16 ∷ 16 ∷ 16 ∷ 16 ∷ 16 ∷ 0 ∷ 16 ∷ 16 ∷ 16 ∷ 0 ∷ 16 ∷ 0 ∷ 16 ∷ 16 ∷ 0 ∷ 0 ∷ 16 ∷ []
 unfolding rules
 ranges = refl
-
--- 11, 17, 28 and 31, both sides of each
-pub doors :
-    (door fresh (replicate 65535 0) 1 ∷ door fresh (replicate 65537 0) 1 ∷ door fresh blank 1 ∷ door fresh blank 1000001 ∷ door (withStatus fresh 1) blank 0 ∷ door (withStatus fresh 24) blank 1
-    ∷ readCall square blank (dot 0 0) .answer ∷ readCall square blank (dot 511 511) .answer ∷ readCall square blank (pixel (negsuc 0) (pos 0)) .answer ∷ readCall square blank (pixel (pos 0) (negsuc 0)) .answer
-    ∷ readCall square blank (dot 512 0) .answer ∷ readCall square blank (dot 0 512) .answer ∷ [])
-    ≡ 11 ∷ 11 ∷ 0 ∷ 17 ∷ 28 ∷ 28 ∷ 0 ∷ 0 ∷ 31 ∷ 31 ∷ 31 ∷ 31 ∷ []
-unfolding rules
-doors = refl
-
--- a budget of 1,000,000 runs: here until the file ends
-pub full-budget : runCall (plain (file (0o164000 ∷ []))) fresh blank 1000000 .result .answer ≡ 23
-unfolding rules
-full-budget = refl
 
 -- each door before the next, with both shut: 11 12, 12 13, 13 14, 14 12, 12 15, 15 16, 16 17, 17 28, and 11 31
 abbrev lame : Machine
