@@ -177,11 +177,13 @@ if [ ! -r "$work/a file.df" ]; then
     is 2 "nothing can be written in $work/out." ./picture examples/weeks.df "$work/out/out.pgm"
     chmod 700 "$work/out"
 fi
-if command -v script >/dev/null; then
+if script -qec true /dev/null </dev/null >/dev/null 2>&1; then
     got=0
     script -qec './picture examples/weeks.df' /dev/null </dev/null >"$work/said" || got=$?
     [ "$got" -eq 2 ] && grep -q '^picture: a picture is no text for a terminal: call it as ./picture FILE OUT.png, or' "$work/said" ||
         fail "on a terminal ./picture ends with status $got and says '$(head -c 200 "$work/said")'"
+else
+    echo 'picture: no terminal can be made here, so ./picture was not called on one'
 fi
 
 # ---- a PNG: by what is at hand; by python3 alone; and by nothing
