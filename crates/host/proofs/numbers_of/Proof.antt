@@ -6,10 +6,10 @@ use Rattle.host.proofs.numbers_of.Statement.{statement}
 use Rattle.host.proofs.numbers_of.Tie as tie
 
 fits-x : (c : tie.After-struct-told) → SFits w32 (c .before .before .before .args .m .x .0)
-fits-x c = record { sfits = c .struct-told .given .1 .0 .1 .1 .0 .1 }
+fits-x c = record { sfits = c .struct-told .given .0 .1 .1 .0 .1 }
 
 fits-y : (c : tie.After-struct-told) → SFits w32 (c .before .before .before .args .m .y .0)
-fits-y c = record { sfits = c .struct-told .given .1 .1 .0 .1 .1 .0 .1 }
+fits-y c = record { sfits = c .struct-told .given .1 .0 .1 .1 .0 .1 }
 
 number-requires : tie.Need-number-requires
 number-requires c κs = search needs
