@@ -11,7 +11,7 @@ use Rattle.definition.specs.Run.{begun, run}
 use Rattle.definition.specs.Calls.{plain, given, checkCall, startCall, answered, runCall, readCall}
 use Rattle.definition.specs.declared.Machine.{Machine}
 use Rattle.definition.proofs.Opened.{rules}
-use Rattle.definition.proofs.Worked.{file, inMode, dot}
+use Rattle.definition.proofs.Worked.{file, inMode}
 use Rattle.definition.proofs.Runs.{typed}
 
 -- the answer of a run of a file from a machine, and of a file of one segment; no image is lent, since no answer of a step depends on one

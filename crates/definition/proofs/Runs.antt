@@ -24,7 +24,7 @@ abbrev pub numbers : Left Ran → List ℤ
 numbers l = ranLine (l .result)
 
 -- the run of a fresh machine; no image is lent, since none of the numbers depends on one
-abbrev pub ran : List ℕ → ℕ → Left Ran
+abbrev ran : List ℕ → ℕ → Left Ran
 ran f b = answered (run (given (plain f)) b (begun fresh []))
 
 pub typed-twice : numbers (ran typed 10) ≡ pos 0 ∷ pos 10 ∷ pos 16 ∷ pos 514 ∷ pos 0 ∷ pos 512 ∷ pos 512 ∷ []

@@ -12,7 +12,7 @@ pub struct Pixel {
 }
 
 // Numbers where document 01 gives a range, so that a machine out of range can be handed over, and refused by 16. No mode is 255. The largest
-// fields come first: with a gap between two of them a copy takes twice as long.
+// fields come first, so that there is no gap between two of them: a copy over one is slow (docs/PERFORMANCE.md).
 pub struct Machine {
     pub x: Units,
     pub y: Units,
