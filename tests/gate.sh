@@ -6,6 +6,8 @@ work=$(mktemp -d)
 trap 'rm -rf "$work"' EXIT
 mkdir "$work/bin" "$work/tests"
 cp test "$work/test"
+# Beside the test that is tried stands one that passes, and ends later.
+echo 'sleep 0.2' >"$work/tests/two.sh"
 
 # PROVER TEST LINE STATUS: with these commands for a prover and for a test, ./test ends with this line and status.
 try() {
@@ -20,10 +22,10 @@ try() {
     exit 1
 }
 
-try "echo '7 passed, 0 failed'" 'exit 0' '8 passed, 0 failed' 0
-try "echo '7 passed, 0 failed'" 'exit 1' '7 passed, 1 failed' 1
-try "echo '6 passed, 1 failed'; exit 1" 'exit 0' '7 passed, 1 failed' 1
-try "echo '7 passed, 0 failed'; exit 1" 'exit 0' '8 passed, 1 failed' 1
-try "exit 0" 'exit 0' '1 passed, 1 failed' 1
-try "echo '7 passed, 0 failed'; echo more" 'exit 0' '1 passed, 1 failed' 1
-try "echo '0 passed, 0 failed?'; exit 2" 'exit 1' '0 passed, 2 failed' 1
+try "echo '7 passed, 0 failed'" 'exit 0' '9 passed, 0 failed' 0
+try "echo '7 passed, 0 failed'" 'exit 1' '8 passed, 1 failed' 1
+try "echo '6 passed, 1 failed'; exit 1" 'exit 0' '8 passed, 1 failed' 1
+try "echo '7 passed, 0 failed'; exit 1" 'exit 0' '9 passed, 1 failed' 1
+try "exit 0" 'exit 0' '2 passed, 1 failed' 1
+try "echo '7 passed, 0 failed'; echo more" 'exit 0' '2 passed, 1 failed' 1
+try "echo '0 passed, 0 failed?'; exit 2" 'exit 1' '1 passed, 2 failed' 1

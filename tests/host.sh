@@ -3,6 +3,9 @@
 # and ./build as it is called with something wrong.
 set -eu
 cd "$(dirname "$0")/.."
+# tests that prove or build in this folder take turns
+exec 8<crates.txt
+flock 8
 work=$(mktemp -d)
 trap 'rm -rf "$work"' EXIT
 trap 'exit 1' HUP INT PIPE TERM

@@ -3,6 +3,9 @@
 # expects of each, and the program of crates/parts writes its own records. SEED=n repeats a run.
 set -eu
 cd "$(dirname "$0")/.."
+# tests that prove or build in this folder take turns
+exec 8<crates.txt
+flock 8
 seed=${SEED:-$(date +%s)}
 program=target/bin/parts
 least=450000

@@ -3,6 +3,9 @@
 # called: to a file, to standard output, with something wrong. SEED=n repeats a run.
 set -eu
 cd "$(dirname "$0")/.."
+# tests that prove or build in this folder take turns
+exec 8<crates.txt
+flock 8
 top=$PWD
 seed=${SEED:-$(date +%s)}
 # the first 42 files of a seed are the same for each: sizes about those that are taken

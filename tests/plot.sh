@@ -3,6 +3,9 @@
 # another folder, with input that comes in pieces, with something wrong. SEED=n repeats a run.
 set -eu
 cd "$(dirname "$0")/.."
+# tests that prove or build in this folder take turns
+exec 8<crates.txt
+flock 8
 top=$PWD
 seed=${SEED:-$(date +%s)}
 count=2000

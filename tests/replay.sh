@@ -3,6 +3,9 @@
 # expects, and docs/REPLAY.md has their table; then the program of crates/replay runs fresh ones. SEED=n repeats a run.
 set -eu
 cd "$(dirname "$0")/.."
+# tests that prove or build in this folder take turns
+exec 8<crates.txt
+flock 8
 seed=${SEED:-$(date +%s)}
 stored=crates/replay
 count=4000
