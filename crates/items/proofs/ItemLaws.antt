@@ -13,7 +13,7 @@ use borrow.Author.Tests.{not-true, not-false}
 use Rattle.definition.specs.Units.{units}
 use Rattle.definition.specs.Image.{Left, left, square, pixelAt, stores}
 use Rattle.definition.specs.Vector.{vector}
-use Rattle.definition.specs.Machine.{next, withCounter, withPosition, inRange}
+use Rattle.definition.specs.Machine.{inRange}
 use Rattle.definition.specs.Step.{changed, leaves, Way, pointAt, refuses}
 use Rattle.definition.specs.Step.Change.{Set, Move}
 use Rattle.definition.specs.declared.Units.{Units}
@@ -26,8 +26,9 @@ use Rattle.units.specs.declared.Moved.the-variants.{To, Out}
 use Rattle.units.proofs.AnswerLaws.{moved-to, moved-out}
 use Rattle.image.specs.Drawn.{drawn}
 use Rattle.items.specs.Ends.{Leads}
-use Rattle.items.specs.Goes.{told, stepped, completed, vectorTo, kept, lights, wordsIf, arrived, placed, goes}
-use Rattle.items.specs.declared.Stepped.{Stepped}
+use Rattle.outcome.specs.Outcome.{told, stepped, completed, wordsIf, arrived}
+use Rattle.outcome.specs.declared.Stepped.{Stepped}
+use Rattle.items.specs.Goes.{vectorTo, kept, lights, placed, goes}
 
 -- ---- where a coordinate is led
 pub set-leads : (u v : Units) → inRange v ≡ true → Leads u (Set v) v
@@ -59,14 +60,6 @@ module _ (m : Machine) (lit : Bool) (im : List ℕ) {on : Bool} (e : on ≡ lit 
         → left n im′ ≡ lights m lit im (vectorTo m x y)
     unfolding lights kept drawn
     lit-line ea eb d = rw (← e, not-false on t) (d ∙ rw (ea, eb))
-
--- ---- past the item's words
-module _ (m : Machine) (second : Bool) (x y : Units) (n : ℕ) {c : ℕ} {r : Stepped} (e : c ≡ next (m .counter)) where
-  pub placed-by-one : second ≡ false → r ≡ completed (withPosition (withCounter m c) x y) 1 n → r ≡ completed (arrived m second x y) (wordsIf second) n
-  placed-by-one t er = rw (t, er, e)
-
-  pub placed-by-two : {c′ : ℕ} → second ≡ true → c′ ≡ next c → r ≡ completed (withPosition (withCounter m c′) x y) 2 n → r ≡ completed (arrived m second x y) (wordsIf second) n
-  placed-by-two t e′ er = rw (t, er, e′, e)
 
 -- ---- the item
 module _ (m : Machine) (lit : Bool) (im : List ℕ) (w : Way) (second : Bool) {r : Stepped} where

@@ -1,4 +1,4 @@
--- What a step comes to in code: the machine and the counts that it answers, and the image that it leaves. And an item whose words are not refused: 27, or where it goes and what it lights.
+-- An item whose words are not refused: 27, or where it goes and what it lights.
 use Prim.Native.Nat.{ℕ}
 use mathlib.Core.Bool.{Bool, _&&_, _||_}
 use mathlib.Core.List.{List, []}
@@ -6,24 +6,12 @@ use lib.ListN.{length}
 use Rattle.definition.specs.Choice.{pick}
 use Rattle.definition.specs.Image.{Left, left, pixelAt, inside, stores}
 use Rattle.definition.specs.Vector.{vector}
-use Rattle.definition.specs.Machine.{past, withCounter, withPosition, shapeOf, penOf}
+use Rattle.definition.specs.Machine.{shapeOf, penOf}
 use Rattle.definition.specs.Step.{Way, changed, leaves, Step, refuses}
-use Rattle.definition.specs.Run.{counted}
 use Rattle.definition.specs.declared.Units.{Units}
 use Rattle.definition.specs.declared.Pixel.{Pixel}
 use Rattle.definition.specs.declared.Machine.{Machine}
-use Rattle.items.specs.declared.Stepped.{Stepped}
-
-abbrev pub told : Step → Stepped
-told t = record { machine = t .machine; counts = counted t }
-
--- a step of the machine m, into the image im
-unfoldable pub stepped : Machine → List ℕ → Step → Left Stepped
-stepped m im t = left (told t) (stores (shapeOf m) (penOf m) im (t .pixels))
-
--- what is answered for a step that completes: it counts as one
-abbrev pub completed : Machine → ℕ → ℕ → Stepped
-completed m words stores = record { machine = m; counts = record { steps = 1; words = words; stores = stores } }
+use Rattle.outcome.specs.Outcome.{wordsIf, arrived}
 
 -- the vector from the position to (x, y)
 abbrev pub vectorTo : Machine → Units → Units → List Pixel
@@ -35,13 +23,6 @@ kept m lit ps = pick (lit && m .write) (inside (shapeOf m) ps) []
 
 unfoldable pub lights : Machine → Bool → List ℕ → List Pixel → Left ℕ
 lights m lit im ps = left (length (kept m lit ps)) (stores (shapeOf m) (penOf m) im (kept m lit ps))
-
--- an item's words, and the machine past them, at (x, y)
-abbrev pub wordsIf : Bool → ℕ
-wordsIf second = pick second 2 1
-
-abbrev pub arrived : Machine → Bool → Units → Units → Machine
-arrived m second x y = withPosition (withCounter m (past (wordsIf second) (m .counter))) x y
 
 -- an item that completes, at its new position
 unfoldable pub placed : Machine → Bool → Units → Units → List Pixel → Step

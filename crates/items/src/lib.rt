@@ -1,7 +1,7 @@
-// The items, their words not refused: 27, or where each goes and what it draws. And how a step ends.
-use definition::Counts;
+// The items, their words not refused: 27, or where each goes and what it draws.
 use definition::Machine;
 use definition::Units;
+use outcome::Stepped;
 use units::Moved;
 ghost use mathlib.Core.Path.{_≡_};
 ghost use mathlib.Core.Bool.{true, false, _&&_};
@@ -10,70 +10,13 @@ ghost use lib.IntN.{pos};
 ghost use lib.ListN.{length};
 ghost use Rattle.definition.specs.Units.{units, moved};
 ghost use Rattle.definition.specs.Image.{imageBytes, left};
-ghost use Rattle.definition.specs.Machine.{next, inRange, ranged};
-ghost use Rattle.definition.specs.Step.{way, pointAt, vectorBy, refuses};
+ghost use Rattle.definition.specs.Machine.{inRange, ranged};
+ghost use Rattle.definition.specs.Step.{way, pointAt, vectorBy};
 ghost use Rattle.definition.specs.Step.Change.{Set, Move};
 ghost use Rattle.units.specs.Answers.{movedTo};
-ghost use Rattle.items.specs.Goes.{told, stepped, completed, vectorTo, lights, wordsIf, arrived, goes};
+ghost use Rattle.outcome.specs.Outcome.{stepped};
+ghost use Rattle.items.specs.Goes.{vectorTo, lights, goes};
 ghost use Rattle.items.specs.Ends.{Ends};
-
-// What a step answers: the machine that it leaves, and what it counts.
-pub struct Stepped {
-    pub machine: Machine,
-    pub counts: Counts,
-}
-
-// The counter goes up by 2 a word, and after 65,534 comes 0.
-pub fn next(counter: u16) -> u16
-    ensures { λ r. ⌜ r ≡ next counter ⌝ }
-{
-    std::num::wrapping_add_u16(counter, 2)
-}
-
-// A refusal sets the status and nothing else, and is not counted.
-pub fn refused(m: Machine, why: u8) -> Stepped
-    ensures { λ r. ⌜ r ≡ told (refuses m why) ⌝ }
-{
-    let mut n = m;
-    n.status = why;
-    Stepped {
-        machine: n,
-        counts: Counts {
-            steps: 0,
-            words: 0,
-            stores: 0,
-        },
-    }
-}
-
-// A step that completes counts one step, and its words and stores.
-pub fn completed(m: Machine, words: u32, stores: u32) -> Stepped
-    ensures { λ r. ⌜ r ≡ completed m words stores ⌝ }
-{
-    Stepped {
-        machine: m,
-        counts: Counts {
-            steps: 1,
-            words,
-            stores,
-        },
-    }
-}
-
-// An item that completes: at its new position, the counter past its words.
-fn placed(m: Machine, second: bool, x: Units, y: Units, stores: u32) -> Stepped
-    ensures { λ r. ⌜ r ≡ completed (arrived m second x y) (wordsIf second) stores ⌝ }
-{
-    let mut n = m;
-    n.x = x;
-    n.y = y;
-    n.counter = next(m.counter);
-    if second {
-        n.counter = next(n.counter);
-        return completed(n, 2, stores);
-    }
-    completed(n, 1, stores)
-}
 
 // A lit item is stored only while write is on.
 fn keeps(lit: bool, write: bool) -> bool
@@ -139,10 +82,10 @@ pub fn vector_by(
     ensures { λ r. ⌜ left r (now (image .exit)) ≡ stepped m (now (image .entry)) (goes m lit (way (Move dx) (Move dy)) (vectorBy m dx dy) second) ⌝ }
 {
     let End::Within { x, y } = end_of(m, dx, dy) else {
-        return refused(m, 27);
+        return outcome::refused(m, 27);
     };
     let stores = line(m, image, lit, x, y);
-    placed(m, second, x, y, stores)
+    outcome::placed(m, second, x, y, stores)
 }
 
 // Moves as a short vector does, and plots the end alone.
@@ -151,17 +94,17 @@ pub fn relative_point(m: Machine, image: &mut [u8], lit: bool, dx: Units, dy: Un
     ensures { λ r. ⌜ left r (now (image .exit)) ≡ stepped m (now (image .entry)) (goes m lit (way (Move dx) (Move dy)) (pointAt m (moved (m .x) dx) (moved (m .y) dy)) false) ⌝ }
 {
     let End::Within { x, y } = end_of(m, dx, dy) else {
-        return refused(m, 27);
+        return outcome::refused(m, 27);
     };
     let stores = point(m, image, lit, x, y);
-    placed(m, false, x, y, stores)
+    outcome::placed(m, false, x, y, stores)
 }
 
 pub fn absolute_point(m: Machine, image: &mut [u8], lit: bool, x: Units, y: Units) -> Stepped
     requires { ⌜ (length (now image) ≡ imageBytes) × (ranged m ≡ true) × (inRange x ≡ true) × (inRange y ≡ true) ⌝ }
     ensures { λ r. ⌜ left r (now (image .exit)) ≡ stepped m (now (image .entry)) (goes m lit (way (Set x) (Set y)) (pointAt m x y) true) ⌝ }
 {
-    placed(m, true, x, y, point(m, image, lit, x, y))
+    outcome::placed(m, true, x, y, point(m, image, lit, x, y))
 }
 
 // A coordinate that grows by the increment.
@@ -177,10 +120,10 @@ pub fn graph_x(m: Machine, image: &mut [u8], lit: bool, x: Units) -> Stepped
     ensures { λ r. ⌜ left r (now (image .exit)) ≡ stepped m (now (image .entry)) (goes m lit (way (Set x) (Move (units (pos (m .increment))))) (pointAt m x (m .y)) false) ⌝ }
 {
     let Moved::To(y) = grown(m.y, m.increment) else {
-        return refused(m, 27);
+        return outcome::refused(m, 27);
     };
     let stores = point(m, image, lit, x, m.y);
-    placed(m, false, x, y, stores)
+    outcome::placed(m, false, x, y, stores)
 }
 
 // The point is plotted at the X from before the step; then X grows by the increment.
@@ -189,8 +132,8 @@ pub fn graph_y(m: Machine, image: &mut [u8], lit: bool, y: Units) -> Stepped
     ensures { λ r. ⌜ left r (now (image .exit)) ≡ stepped m (now (image .entry)) (goes m lit (way (Move (units (pos (m .increment)))) (Set y)) (pointAt m (m .x) y) false) ⌝ }
 {
     let Moved::To(x) = grown(m.x, m.increment) else {
-        return refused(m, 27);
+        return outcome::refused(m, 27);
     };
     let stores = point(m, image, lit, m.x, y);
-    placed(m, false, x, y, stores)
+    outcome::placed(m, false, x, y, stores)
 }

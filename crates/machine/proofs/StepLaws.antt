@@ -31,8 +31,9 @@ use Rattle.definition.specs.declared.Instruction.the-variants.{Does, Draws}
 use Rattle.definition.proofs.Exactly.{apart, passes, stops}
 use Rattle.definition.proofs.Plain.{both-true, is-mostZ}
 use Rattle.definition.proofs.StepLaws.{pick-keeps}
-use Rattle.items.specs.Goes.{told, stepped, completed, kept, placed, goes}
-use Rattle.items.specs.declared.Stepped.{Stepped}
+use Rattle.outcome.specs.Outcome.{told, stepped, completed}
+use Rattle.outcome.specs.declared.Stepped.{Stepped}
+use Rattle.items.specs.Goes.{kept, placed, goes}
 use Rattle.machine.specs.declared.Second.{Second}
 use Rattle.machine.specs.declared.Second.the-variants.{Taken, Turned}
 use Rattle.machine.specs.Seconds.{Seconds}

@@ -13,8 +13,8 @@ use Rattle.definition.specs.declared.Fetched.{Fetched}
 use Rattle.definition.specs.declared.Item.{Item}
 use Rattle.definition.specs.declared.Item.the-variants.{ShortVector, LongVector, AbsolutePoint, GraphX, GraphY, RelativePoint}
 use Rattle.definition.specs.declared.Instruction.{Instruction}
-use Rattle.items.specs.Goes.{completed}
-use Rattle.items.specs.declared.Stepped.{Stepped}
+use Rattle.outcome.specs.Outcome.{completed}
+use Rattle.outcome.specs.declared.Stepped.{Stepped}
 
 -- the coordinates that an item sets outright are in range
 abbrev pub SetsWithin : Item → Type 0

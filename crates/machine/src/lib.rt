@@ -5,7 +5,7 @@ use definition::Item;
 use definition::Machine;
 use definition::Order;
 use definition::Units;
-use items::Stepped;
+use outcome::Stepped;
 ghost use mathlib.Core.Path.{_≡_};
 ghost use mathlib.Core.Bool.{true};
 ghost use lib.ListN.{length};
@@ -16,7 +16,7 @@ ghost use Rattle.definition.specs.Calls.{plain, given};
 ghost use Rattle.definition.specs.declared.Order.the-variants.{Jump};
 ghost use Rattle.definition.specs.declared.Item.the-variants.{LongVector, AbsolutePoint};
 ghost use Rattle.definition.specs.declared.Instruction.the-variants.{Does, Draws};
-ghost use Rattle.items.specs.Goes.{told, stepped};
+ghost use Rattle.outcome.specs.Outcome.{told, stepped};
 ghost use Rattle.machine.specs.Rest.{SetsWithin, rest, passedBy};
 ghost use Rattle.machine.specs.Seconds.{Seconds};
 
@@ -24,7 +24,7 @@ ghost use Rattle.machine.specs.Seconds.{Seconds};
 fn next_word(file: &[u16], m: Machine) -> Fetched
     ensures { λ r. ⌜ r ≡ second (given (plain (now (file .entry)))) m ⌝ }
 {
-    file::fetch(file, items::next(m.counter))
+    file::fetch(file, outcome::next(m.counter))
 }
 
 // The target is the next word, of any value.
@@ -33,11 +33,11 @@ fn jump(file: &[u16], m: Machine) -> Stepped
 {
     let got = next_word(file, m);
     let Fetched::Word(target) = got else {
-        return items::refused(m, file::number_in(got));
+        return outcome::refused(m, file::number_in(got));
     };
     let mut n = m;
     n.counter = target;
-    items::completed(n, 2, 0)
+    outcome::completed(n, 2, 0)
 }
 
 // An order of one word: the counter goes past it.
@@ -45,8 +45,8 @@ fn passed(m: Machine) -> Stepped
     ensures { λ r. ⌜ r ≡ passedBy m ⌝ }
 {
     let mut n = m;
-    n.counter = items::next(m.counter);
-    items::completed(n, 1, 0)
+    n.counter = outcome::next(m.counter);
+    outcome::completed(n, 1, 0)
 }
 
 fn does(file: &[u16], m: Machine, order: Order) -> Stepped
@@ -88,7 +88,7 @@ fn long_vector(file: &[u16], m: Machine, image: &mut [u8], lit: bool, dx: Units)
 {
     match second_word(file, m) {
         Second::Taken(word) => items::vector_by(m, image, lit, dx, words::long(word), true),
-        Second::Turned(why) => items::refused(m, why),
+        Second::Turned(why) => outcome::refused(m, why),
     }
 }
 
@@ -98,7 +98,7 @@ fn absolute_point(file: &[u16], m: Machine, image: &mut [u8], lit: bool, x: Unit
 {
     match second_word(file, m) {
         Second::Taken(word) => items::absolute_point(m, image, lit, x, words::coordinate(word)),
-        Second::Turned(why) => items::refused(m, why),
+        Second::Turned(why) => outcome::refused(m, why),
     }
 }
 
@@ -123,11 +123,11 @@ pub fn step(file: &[u16], m: Machine, image: &mut [u8]) -> Stepped
 {
     let got = file::fetch(file, m.counter);
     let Fetched::Word(word) = got else {
-        return items::refused(m, file::number_in(got));
+        return outcome::refused(m, file::number_in(got));
     };
     let refusal = words::first_refusal(m.mode, word);
     if refusal != 0 {
-        return items::refused(m, refusal);
+        return outcome::refused(m, refusal);
     }
     match words::decode(m.mode, word) {
         Instruction::Does(order) => does(file, m, order),

@@ -16,8 +16,8 @@ use Rattle.definition.specs.declared.Machine.{Machine}
 use Rattle.definition.specs.declared.Counts.{Counts}
 use Rattle.definition.proofs.Plain.{either-false}
 use Rattle.definition.proofs.StepLaws.{step-keeps, run-turn, run-stopped, free, step-ranged}
-use Rattle.items.specs.Goes.{stepped}
-use Rattle.items.specs.declared.Stepped.{Stepped}
+use Rattle.outcome.specs.Outcome.{stepped}
+use Rattle.outcome.specs.declared.Stepped.{Stepped}
 use Rattle.items.proofs.CountLaws.{stored-few}
 
 abbrev pub state : Machine → List ℕ → ℕ → ℕ → ℕ → State

@@ -1,7 +1,7 @@
 use borrow.Author.Needs.{needs}
-use Rattle.items.proofs.ItemLaws.{placed-by-one, placed-by-two}
-use Rattle.items.proofs.placed.Statement.{statement}
-use Rattle.items.proofs.placed.Tie as tie
+use Rattle.outcome.proofs.OutcomeLaws.{placed-by-one, placed-by-two}
+use Rattle.outcome.proofs.placed.Statement.{statement}
+use Rattle.outcome.proofs.placed.Tie as tie
 
 next-requires : tie.Need-next-requires
 next-requires c κs = search needs
