@@ -215,7 +215,7 @@ def copy(where):
     for path in proofs.iterdir():
         if path.stem not in EXAMPLES:
             path.unlink()
-    computed = (TOP / "crates/demands/proofs/Computed.antt").read_text()
+    computed = (TOP / "crates/worked/proofs/Computed.antt").read_text()
     for part in ["specs", "proofs"]:
         computed = computed.replace(f"Rattle.definition.{part}", f"Rattle.definition.{part}")
     (proofs / "Computed.antt").write_text(computed)

@@ -1,4 +1,4 @@
--- Runs, computed: what they count, and what they leave in the machine. Whole calls on whole images are in crates/demands/proofs/Computed.antt, since they take longer.
+-- Runs, computed: what they count, and what they leave in the machine. Whole calls on whole images are in crates/worked/proofs/Computed.antt, since they take longer.
 use Prim.Native.Nat.{ℕ, zero, suc}
 use mathlib.Core.Bool.{Bool, true, false}
 use mathlib.Core.Path.{_≡_, refl}

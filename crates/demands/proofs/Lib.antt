@@ -12,6 +12,5 @@ pub mod Near
 pub mod Numbered
 pub mod Vectors
 pub mod Graphs
-pub mod Computed
 pub mod Instances
 pub mod Demands
