@@ -10,12 +10,12 @@ use Rattle.definition.specs.Image.{imageBytes, Left}
 use Rattle.definition.specs.Calls.{Lent, plain, checkCall, startCall, runCall}
 use Rattle.definition.specs.declared.Machine.{Machine}
 use Rattle.definition.specs.declared.Read.{Read}
-use Rattle.host.specs.Numbers.{numbersOf, flags}
+use Rattle.numbers.specs.Numbers.{numbersOf, flags}
+use Rattle.numbers.specs.declared.HostMachine.{HostMachine}
+use Rattle.numbers.specs.declared.HostRan.{HostRan}
+use Rattle.numbers.specs.declared.HostStarted.{HostStarted}
 use Rattle.host.specs.Calls.{hostStart, hostTurnedAway, hostRun, startedNumbers, ranNumbers}
 use Rattle.host.specs.Promises.{Promise-host-fresh, Promise-host-start, Promise-host-run, Promise-host-step, Promise-host-read}
-use Rattle.host.specs.declared.HostMachine.{HostMachine}
-use Rattle.host.specs.declared.HostRan.{HostRan}
-use Rattle.host.specs.declared.HostStarted.{HostStarted}
 use Rattle.host.proofs.HostLaws as laws
 
 -- ==== one outcome

@@ -23,13 +23,13 @@ use Rattle.definition.specs.declared.Ran.{Ran}
 use Rattle.definition.specs.declared.Started.{Started}
 use Rattle.definition.specs.declared.Read.{Read}
 use Rattle.doors.proofs.DoorLaws.{file-passed, machine-shut, opened}
-use Rattle.host.specs.Numbers.{numbersOf, machineOf, flags, allRanged, taken, given-back, ranOf}
+use Rattle.numbers.specs.Numbers.{numbersOf, machineOf, flags, allRanged, taken, given-back, ranOf}
+use Rattle.numbers.specs.declared.HostMachine.{HostMachine}
+use Rattle.numbers.specs.declared.HostRan.{HostRan}
+use Rattle.numbers.specs.declared.HostStarted.{HostStarted}
+use Rattle.numbers.proofs.NumberLaws.{machine-back, flags-of-numbers, taken-whole, ranged-taken, status-taken, ranged-flags, in-numbers, untouched}
 use Rattle.host.specs.Calls.{numberDoors, hostStart, hostDoors, hostDoor, hostAnswered, hostTurnedAway, hostRun, startedNumbers, ranNumbers}
 use Rattle.host.specs.Promises.{Promise-host-start, Promise-host-run, Promise-host-read}
-use Rattle.host.specs.declared.HostMachine.{HostMachine}
-use Rattle.host.specs.declared.HostRan.{HostRan}
-use Rattle.host.specs.declared.HostStarted.{HostStarted}
-use Rattle.host.proofs.NumberLaws.{machine-back, flags-of-numbers, taken-whole, ranged-taken, status-taken, ranged-flags, in-numbers, untouched}
 
 -- ---- start
 abbrev startNumbers : HostMachine → Started → HostStarted
@@ -55,11 +55,6 @@ module _ (m : HostMachine) (a : ℕ) where
 -- ---- run
 abbrev runNumbers : HostMachine → Left Ran → Left HostRan
 runNumbers m l = left (ranOf m (l .result)) (l .image)
-
-pub told : (m : HostMachine) (r : Ran) {k : HostMachine} → k ≡ given-back m (r .machine)
-    → record { machine = k; steps = r .counts .steps; words = r .counts .words; stores = r .counts .stores; answer = r .answer } ≡ ranOf m r
-unfolding ranOf
-told m r e = rw e
 
 module _ (f : List ℕ) (m : HostMachine) (im : List ℕ) (b : ℕ) where
   same-door : runDoor (plain f) (taken m) im b ≡ hostDoor (plain f) m im b

@@ -11,10 +11,10 @@ use Rattle.definition.specs.Run.{State, begun, run}
 use Rattle.definition.specs.Calls.{Lent, given, imageDoors, budgetDoors, runningDoors}
 use Rattle.definition.specs.declared.Ran.{Ran}
 use Rattle.definition.specs.declared.Started.{Started}
-use Rattle.host.specs.Numbers.{numbersOf, machineOf, allRanged}
-use Rattle.host.specs.declared.HostMachine.{HostMachine}
-use Rattle.host.specs.declared.HostStarted.{HostStarted}
-use Rattle.host.specs.declared.HostRan.{HostRan}
+use Rattle.numbers.specs.Numbers.{numbersOf, machineOf, allRanged}
+use Rattle.numbers.specs.declared.HostMachine.{HostMachine}
+use Rattle.numbers.specs.declared.HostStarted.{HostStarted}
+use Rattle.numbers.specs.declared.HostRan.{HostRan}
 
 unfoldable pub numberDoors : HostMachine → List Test
 numberDoors m = 16 when not (allRanged m) ∷ []

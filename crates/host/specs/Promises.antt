@@ -8,11 +8,11 @@ use Rattle.definition.specs.Image.{left}
 use Rattle.definition.specs.Machine.{fresh}
 use Rattle.definition.specs.Calls.{Lent}
 use Rattle.definition.specs.Promises.{Promise-read}
-use Rattle.host.specs.Numbers.{numbersOf}
+use Rattle.numbers.specs.Numbers.{numbersOf}
+use Rattle.numbers.specs.declared.HostMachine.{HostMachine}
+use Rattle.numbers.specs.declared.HostStarted.{HostStarted}
+use Rattle.numbers.specs.declared.HostRan.{HostRan}
 use Rattle.host.specs.Calls.{hostStart, hostRun}
-use Rattle.host.specs.declared.HostMachine.{HostMachine}
-use Rattle.host.specs.declared.HostStarted.{HostStarted}
-use Rattle.host.specs.declared.HostRan.{HostRan}
 
 abbrev pub Promise-host-fresh : HostMachine → Type 0
 Promise-host-fresh m = m ≡ numbersOf fresh

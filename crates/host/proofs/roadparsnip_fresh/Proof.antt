@@ -1,6 +1,6 @@
 use mathlib.Core.Path.{ap, _∙_}
 use borrow.Author.Needs.{needs}
-use Rattle.host.specs.Numbers.{numbersOf}
+use Rattle.numbers.specs.Numbers.{numbersOf}
 use Rattle.host.proofs.roadparsnip_fresh.Statement.{statement}
 use Rattle.host.proofs.roadparsnip_fresh.Tie as tie
 

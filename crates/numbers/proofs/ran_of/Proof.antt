@@ -1,7 +1,7 @@
 use borrow.Author.Needs.{needs}
-use Rattle.host.proofs.HostLaws.{told}
-use Rattle.host.proofs.ran_of.Statement.{statement}
-use Rattle.host.proofs.ran_of.Tie as tie
+use Rattle.numbers.proofs.NumberLaws.{told}
+use Rattle.numbers.proofs.ran_of.Statement.{statement}
+use Rattle.numbers.proofs.ran_of.Tie as tie
 
 given-back-requires : tie.Need-given-back-requires
 given-back-requires c κs = search needs

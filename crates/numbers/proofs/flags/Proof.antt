@@ -1,6 +1,6 @@
-use Rattle.host.proofs.NumberLaws.{by-latch, write-out}
-use Rattle.host.proofs.flags.Statement.{statement}
-use Rattle.host.proofs.flags.Tie as tie
+use Rattle.numbers.proofs.NumberLaws.{by-latch, write-out}
+use Rattle.numbers.proofs.flags.Statement.{statement}
+use Rattle.numbers.proofs.flags.Tie as tie
 
 returns : tie.Need-returns
 returns c = by-latch _ (c .before .if1 .taken)

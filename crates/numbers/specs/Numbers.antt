@@ -7,8 +7,8 @@ use Rattle.definition.specs.Units.{units}
 use Rattle.definition.specs.Machine.{ranged, withMode}
 use Rattle.definition.specs.declared.Machine.{Machine}
 use Rattle.definition.specs.declared.Ran.{Ran}
-use Rattle.host.specs.declared.HostMachine.{HostMachine}
-use Rattle.host.specs.declared.HostRan.{HostRan}
+use Rattle.numbers.specs.declared.HostMachine.{HostMachine}
+use Rattle.numbers.specs.declared.HostRan.{HostRan}
 
 abbrev pub number : Bool → ℕ
 number t = pick t 1 0

@@ -14,9 +14,10 @@ use Rattle.definition.specs.Units.{units}
 use Rattle.definition.specs.Words.{setsMode}
 use Rattle.definition.specs.Machine.{withMode, inRange, isMode, isStatus, ranged}
 use Rattle.definition.specs.declared.Machine.{Machine}
+use Rattle.definition.specs.declared.Ran.{Ran}
 use Rattle.definition.proofs.Exactly.{apart}
-use Rattle.host.specs.Numbers.{number, numbersOf, machineOf, flags, allRanged, taken, given-back}
-use Rattle.host.specs.declared.HostMachine.{HostMachine}
+use Rattle.numbers.specs.Numbers.{number, numbersOf, machineOf, flags, allRanged, taken, given-back, ranOf}
+use Rattle.numbers.specs.declared.HostMachine.{HostMachine}
 
 -- ---- the flags
 module _ (m : HostMachine) where
@@ -118,3 +119,9 @@ module _ (m : HostMachine) where
       go : (t : Bool) → flags m ≡ t → pick t (numbersOf (pick t (machineOf m) (withMode (machineOf m) 0 (m .value)))) m ≡ m
       go true e = numbers-back e
       go false e = refl
+
+-- ---- what a run or a step answered
+pub told : (m : HostMachine) (r : Ran) {k : HostMachine} → k ≡ given-back m (r .machine)
+    → record { machine = k; steps = r .counts .steps; words = r .counts .words; stores = r .counts .stores; answer = r .answer } ≡ ranOf m r
+unfolding ranOf
+told m r e = rw e

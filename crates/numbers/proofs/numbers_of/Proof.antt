@@ -1,9 +1,9 @@
 use mir.Syntax.{w32}
 use mir.Val.{SFits}
 use borrow.Author.Needs.{needs}
-use Rattle.host.proofs.NumberLaws.{spelled}
-use Rattle.host.proofs.numbers_of.Statement.{statement}
-use Rattle.host.proofs.numbers_of.Tie as tie
+use Rattle.numbers.proofs.NumberLaws.{spelled}
+use Rattle.numbers.proofs.numbers_of.Statement.{statement}
+use Rattle.numbers.proofs.numbers_of.Tie as tie
 
 fits-x : (c : tie.After-struct-told) → SFits w32 (c .before .before .before .args .m .x .0)
 fits-x c = record { sfits = c .struct-told .given .0 .1 .1 .0 .1 }

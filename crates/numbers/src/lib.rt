@@ -1,0 +1,119 @@
+// The machine in numbers, as a host program in C holds it: what a call takes of it, and what it gives back.
+use definition::Machine;
+use definition::Ran;
+use definition::Units;
+ghost use mathlib.Core.Path.{_≡_};
+ghost use Rattle.numbers.specs.Numbers.{number, numbersOf, machineOf, flags, taken, given-back, ranOf};
+
+// In an order that leaves no gap between two fields. A flag that is neither 0 nor 1 is out of range.
+#[repr(C)]
+pub struct HostMachine {
+    pub x: i32,
+    pub y: i32,
+    pub counter: u16,
+    pub mode: u8,
+    pub value: u8,
+    pub write: u8,
+    pub latch: u8,
+    pub increment: u8,
+    pub status: u8,
+}
+
+#[repr(C)]
+pub struct HostStarted {
+    pub machine: HostMachine,
+    pub answer: u8,
+}
+
+#[repr(C)]
+pub struct HostRan {
+    pub machine: HostMachine,
+    pub steps: u32,
+    pub words: u32,
+    pub stores: u32,
+    pub answer: u8,
+}
+
+fn number(flag: bool) -> u8
+    ensures { λ r. ⌜ r ≡ number flag ⌝ }
+{
+    if flag {
+        return 1;
+    }
+    0
+}
+
+pub fn numbers_of(m: Machine) -> HostMachine
+    ensures { λ r. ⌜ r ≡ numbersOf m ⌝ }
+{
+    let write = number(m.write);
+    let latch = number(m.latch);
+    HostMachine {
+        x: m.x.0,
+        y: m.y.0,
+        counter: m.counter,
+        mode: m.mode,
+        value: m.value,
+        write,
+        latch,
+        increment: m.increment,
+        status: m.status,
+    }
+}
+
+fn machine_of(m: HostMachine) -> Machine
+    ensures { λ r. ⌜ r ≡ machineOf m ⌝ }
+{
+    Machine {
+        counter: m.counter,
+        x: Units(m.x),
+        y: Units(m.y),
+        mode: m.mode,
+        value: m.value,
+        write: m.write == 1,
+        latch: m.latch == 1,
+        increment: m.increment,
+        status: m.status,
+    }
+}
+
+fn flags(m: HostMachine) -> bool
+    ensures { λ r. ⌜ r ≡ flags m ⌝ }
+{
+    m.write < 2 && m.latch < 2
+}
+
+// The machine that a call works on. Where a flag is out of range its mode is so too: the call answers what comes before 16, or 16.
+pub fn taken(m: HostMachine) -> Machine
+    ensures { λ r. ⌜ r ≡ taken m ⌝ }
+{
+    let mut n = machine_of(m);
+    if !flags(m) {
+        n.mode = 0;
+    }
+    n
+}
+
+// What a call left of the machine that it worked on; of one with a flag out of range it left everything.
+pub fn given_back(m: HostMachine, n: Machine) -> HostMachine
+    ensures { λ r. ⌜ r ≡ given-back m n ⌝ }
+{
+    if !flags(m) {
+        return m;
+    }
+    numbers_of(n)
+}
+
+// What a run or a step answered, in numbers.
+pub fn ran_of(m: HostMachine, ran: Ran) -> HostRan
+    ensures { λ r. ⌜ r ≡ ranOf m ran ⌝ }
+{
+    let machine = given_back(m, ran.machine);
+    HostRan {
+        machine,
+        steps: ran.counts.steps,
+        words: ran.counts.words,
+        stores: ran.counts.stores,
+        answer: ran.answer,
+    }
+}
