@@ -17,6 +17,8 @@ work=$(mktemp -d)
 trap 'rm -rf "$work"' EXIT
 trap 'exit 1' HUP INT PIPE TERM
 rt check picture >"$work/log" 2>&1 || { tail -n 20 "$work/log"; echo 'picture: the program is not proved'; exit 1; }
+# It is proved as the sources are now, also where a folder is newer: ./picture has nothing to build, and says nothing of it.
+touch target/bin/picture
 
 fail() {
     echo "picture: $1 (seed $seed)"

@@ -17,6 +17,8 @@ work=$(mktemp -d)
 trap 'rm -rf "$work"' EXIT
 trap 'exit 1' HUP INT PIPE TERM
 rt check plot >"$work/out" 2>&1 || { tail -n 20 "$work/out"; echo 'plot: the program is not proved'; exit 1; }
+# It is proved as the sources are now, also where a folder is newer: ./plot has nothing to build, and says nothing of it.
+touch target/bin/plot
 
 fail() {
     echo "plot: $1 (seed $seed)"
