@@ -1,21 +1,26 @@
 -- The words of the statements applied to examples: what they should mean, computed.
 use mathlib.Core.Bool.{true, false}
-use mathlib.Core.List.{List, [], _∷_}
+use Prim.Native.Nat.{ℕ}
+use mathlib.Core.List.{List, [], _∷_, map}
 use mathlib.Core.Path.{_≡_, refl}
 use lib.IntN.{pos, negsuc}
 use Rattle.whole.specs.Parts.{whole}
 use Rattle.definition.specs.Units.{units}
 use Rattle.definition.specs.Image.{square}
+use Rattle.definition.specs.Machine.{fresh, withMode}
+use Rattle.definition.specs.Run.{State, begun}
+use Rattle.definition.specs.declared.Pixel.{Pixel}
 use Rattle.definition.specs.Step.Change.{Stay, Set, Move}
 use Rattle.definition.specs.declared.Order.the-variants.{Increment}
 use Rattle.definition.specs.declared.Item.the-variants.{GraphY, ShortVector}
 use Rattle.definition.specs.declared.Instruction.the-variants.{Does, Draws}
 use Rattle.definition.proofs.Opened.{rules}
-use Rattle.definition.proofs.Worked.{dot}
+use Rattle.definition.proofs.Worked.{holding, inMode, dot}
 use Rattle.demands.specs.Conditions.{InRange}
 use Rattle.demands.specs.Exact.{exact}
-use Rattle.demands.specs.Graphs.{AlongX, AlongY, weeks}
-use Rattle.demands.specs.Ledger.{Entry, changes, settled}
+use Rattle.demands.specs.Graphs.{AlongX, AlongY, weeks, ofLit}
+use Rattle.demands.specs.Ledger.{Entry, completed, changes, settled}
+use Rattle.demands.specs.Strokes.{Stroke, strokes, ledgerWords, standing}
 
 -- two graph words from unit 10 with increment 4: the first at 10 itself
 pub two-weeks : weeks AlongX square (pos 10) 4 0 (0o040100 ∷ 0o040104 ∷ []) ≡ dot 5 32 ∷ dot 7 34 ∷ []
@@ -25,6 +30,36 @@ two-weeks = refl
 pub two-rows : weeks AlongY square (pos 10) 4 0 (0o040100 ∷ 0o040104 ∷ []) ≡ dot 32 5 ∷ dot 34 7 ∷ []
 unfolding rules
 two-rows = refl
+
+-- of three words the second is blank: it lights nothing, and is stepped over
+abbrev three : List ℕ
+three = 0o040100 ∷ 0o000102 ∷ 0o040104 ∷ []
+
+pub blank-week : ofLit three (weeks AlongX square (pos 10) 4 0 three) ≡ dot 5 32 ∷ dot 9 34 ∷ []
+unfolding rules
+blank-week = refl
+
+-- the strokes of a lit vector, a blank one and a lit one, of 4 units across each, and a stop; and the words of these instructions
+abbrev dashes : List ℕ
+dashes = 0o041000 ∷ 0o001000 ∷ 0o041000 ∷ 0o172000 ∷ []
+
+abbrev drawing : State
+drawing = begun (inMode 1 (pos 0) (pos 0)) []
+
+pub dashed : map (λ (t : Stroke). t .pixel) (strokes (holding dashes) 9 drawing) ≡ dot 0 0 ∷ dot 1 0 ∷ dot 2 0 ∷ dot 4 0 ∷ dot 5 0 ∷ dot 6 0 ∷ []
+unfolding rules strokes completed
+dashed = refl
+
+pub dashed-words : ledgerWords (completed (holding dashes) 9 drawing) ≡ 4
+unfolding rules completed
+dashed-words = refl
+
+-- of strokes by 3 and then by 2 at one pixel, the last one stands; the one by 1 is elsewhere
+abbrev by : ℕ → Pixel → Stroke
+by v p = record { machine = withMode fresh 1 v; pixel = p }
+
+pub last-one : standing (dot 1 1) 0 (by 3 (dot 1 1) ∷ by 2 (dot 1 1) ∷ by 1 (dot 2 1) ∷ []) ≡ 2
+last-one = refl
 
 -- moves before the last outright setting are forgotten, those after it are summed; with no setting all of them are
 pub set-and-moved : (settled (units (pos 3)) (Move (units (pos 2)) ∷ Set (units (pos 10)) ∷ Move (units (negsuc 2)) ∷ Stay ∷ Move (units (pos 1)) ∷ []) ∷ settled (units (pos 3)) (Move (units (pos 2)) ∷ Stay ∷ Move (units (negsuc 0)) ∷ []) ∷ [])

@@ -27,9 +27,9 @@ use Rattle.definition.specs.declared.Fetched.the-variants.{Word}
 use Rattle.definition.specs.declared.Ran.{Ran}
 use Rattle.definition.specs.declared.Started.{Started}
 use Rattle.definition.specs.declared.Read.{Read}
-use Rattle.demands.specs.Conditions.{Head, Keeps, Accepted, SameHeader, SameWords, InRange, Fits, Open, During, InField, On, NotBuilt, NoMode, Pair, word, more, Begins, Continues, FetchRefused, newX, newY, Stops, LatchIs}
+use Rattle.demands.specs.Conditions.{Head, Keeps, Accepted, SameHeader, SameWords, Fits, Open, During, InField, On, NotBuilt, NoMode, Pair, word, more, Begins, FetchRefused, MovesOut, Stops, LatchIs}
 use Rattle.demands.specs.Ledger.{completed, changes, settled}
-use Rattle.demands.specs.Graphs.{AlongX, AlongY, weeks, shown, Ready, plotted}
+use Rattle.demands.specs.Graphs.{AlongX, AlongY, weeks, ofLit, shown, Ready, plotted}
 use Rattle.demands.specs.Exact.{exact}
 use Rattle.demands.specs.Outcomes.{refusedAfter, plus}
 use Rattle.demands.proofs.Runs as runs
@@ -177,7 +177,7 @@ module _ (l : Lent) (m : Machine) (im : List ℕ) (b : ℕ) where
   pub run-26 : (answer ≡ 26) ↔ Ends (λ m. Begins g m × ((numberIn (second g m) ≡ 0) × (Pair (m .mode) (word g m) × On 15 (more g m))))
   run-26 = calls.run-ended l m im b 26 (λ e. omega arith) (inr (omega arith, omega arith)) _ (steps.step-26 g)
 
-  pub run-27 : (answer ≡ 27) ↔ Ends (λ m. Continues g m × ((InRange (newX g m) → ⊥) ⊎ (InRange (newY g m) → ⊥)))
+  pub run-27 : (answer ≡ 27) ↔ Ends (MovesOut g)
   run-27 = calls.run-ended l m im b 27 (λ e. omega arith) (inr (omega arith, omega arith)) _ (steps.step-27 g)
 
 -- the other calls, and plot
@@ -216,14 +216,14 @@ plot-ran = others.plot-run
 -- ==== Demand 2
 
 -- ---- the plot comes before the step
--- lit words of graph Y, run one after the other from any position with room for their steps: the whole state after them
+-- words of graph Y, lit or blank, run one after the other from any position with room for their steps: the whole state after them
 pub graph-y-plots-then-steps : (g : Given) (s : State) (ws : List ℕ) → Ready AlongX g s ws → run g (length ws) s ≡ plotted AlongX s ws
 graph-y-plots-then-steps = graphs.plot-then-step AlongX
 
 pub graph-x-plots-then-steps : (g : Given) (s : State) (ws : List ℕ) → Ready AlongY g s ws → run g (length ws) s ≡ plotted AlongY s ws
 graph-x-plots-then-steps = graphs.plot-then-step AlongY
 
--- of which: word k lights the pixel of (start + k x increment, its value), and word 0 that of the start's own column; for graph X, row
+-- of which: word k stands at the pixel of (start + k x increment, its value), and word 0 at that of the start's own column; for graph X, row
 pub week-k : (h : Shape) (x : ℤ) (g k : ℕ) (ws : List ℕ) (d : Pixel) → k < length ws
     → getD (weeks AlongX h x g 0 ws) k d ≡ pixelAt h (units (x +ℤ pos (k * g))) (coordinate (getD ws k 0))
 week-k = graphs.week-at AlongX
@@ -235,9 +235,9 @@ pub row-k : (h : Shape) (y : ℤ) (g k : ℕ) (ws : List ℕ) (d : Pixel) → k 
     → getD (weeks AlongY h y g 0 ws) k d ≡ pixelAt h (coordinate (getD ws k 0)) (units (y +ℤ pos (k * g)))
 row-k = graphs.week-at AlongY
 
--- the image is the one before with these pixels stored, and the position ends one increment past the last word
+-- the image is the one before with the pixels of the lit words stored, and the position ends one increment past the last word
 pub week-picture : (g : Given) (s : State) (ws : List ℕ) → Ready AlongX g s ws
-    → run g (length ws) s .image ≡ stores (shapeOf (s .machine)) (penOf (s .machine)) (s .image) (shown (s .machine) (weeks AlongX (shapeOf (s .machine)) (s .machine .x .0) (s .machine .increment) 0 ws))
+    → run g (length ws) s .image ≡ stores (shapeOf (s .machine)) (penOf (s .machine)) (s .image) (shown (s .machine) (ofLit ws (weeks AlongX (shapeOf (s .machine)) (s .machine .x .0) (s .machine .increment) 0 ws)))
 week-picture g s ws r = ap (λ (t : State). t .image) (graphs.plot-then-step AlongX g s ws r)
 
 pub week-position : (g : Given) (s : State) (ws : List ℕ) → Ready AlongX g s ws → run g (length ws) s .machine .x ≡ units (s .machine .x .0 +ℤ pos (length ws * s .machine .increment))

@@ -1,6 +1,6 @@
--- Plot before step: word k of a list of lit graph words stands k increments from the start, and the position ends one increment past the last.
+-- Plot before step: word k of a list of graph words stands k increments from the start, and the position ends one increment past the last.
 use Prim.Native.Nat.{ℕ, zero, suc, _+_, _*_, _/_, _%_, _<_}
-use mathlib.Core.Bool.{Bool, true, false}
+use mathlib.Core.Bool.{Bool, true, false, _&&_}
 use mathlib.Core.List.{List, [], _∷_, _++_}
 use mathlib.Core.Path.{_≡_, refl, sym, ap, _∙_}
 use native.Mathlib.Omega.{arith}
@@ -26,8 +26,8 @@ use Rattle.definition.specs.declared.Item.{Item}
 use Rattle.definition.specs.declared.Item.the-variants.{GraphX, GraphY}
 use Rattle.definition.specs.declared.Instruction.the-variants.{Draws}
 use Rattle.definition.proofs.StoreLaws.{stores-append, inside-append}
-use Rattle.demands.specs.Conditions.{InRange}
-use Rattle.demands.specs.Graphs.{Axis, AlongX, AlongY, modeOf, stepped, valued, pixelOn, weeks, shown, went, Ready, plotted}
+use Rattle.demands.specs.Conditions.{InRange, Off}
+use Rattle.demands.specs.Graphs.{Axis, AlongX, AlongY, AllLit, modeOf, stepped, valued, pixelOn, weeks, ofLit, shown, went, Ready, plotted}
 use Rattle.definition.proofs.StepLaws.{on, step-done, run-turn}
 use Rattle.demands.proofs.Kept.{in-range}
 
@@ -36,42 +36,50 @@ abbrev itemOf : Axis → Units → Item
 itemOf AlongX v = GraphY v
 itemOf AlongY v = GraphX v
 
--- a lit data word: bit 15 clear, bit 14 set
-clear-15 : (w : ℕ) → w / 16384 ≡ 1 → bit 15 w ≡ false
+-- a data word: bit 15 clear
+pub clear-15 : (w : ℕ) → Off 15 w → bit 15 w ≡ false
 clear-15 w e = ne-eqb (w / 32768 % 2) 1 (λ q. omega arith)
 
-set-14 : (w : ℕ) → w / 16384 ≡ 1 → bit 14 w ≡ true
-set-14 w e = eq-eqb (w / 16384 % 2) 1 (omega arith)
-
-decoded : (axis : Axis) (w : ℕ) → w / 16384 ≡ 1 → decode (modeOf axis) w ≡ Draws true (itemOf axis (coordinate w))
+decoded : (axis : Axis) (w : ℕ) → Off 15 w → decode (modeOf axis) w ≡ Draws (bit 14 w) (itemOf axis (coordinate w))
 unfolding decode item
-decoded AlongX w e = rw (clear-15 w e, set-14 w e)
-decoded AlongY w e = rw (clear-15 w e, set-14 w e)
+decoded AlongX w e = rw (clear-15 w e)
+decoded AlongY w e = rw (clear-15 w e)
 
 -- a coordinate of a word is in range
-coordinate-in : (w : ℕ) → InRange (coordinate w)
+pub coordinate-in : (w : ℕ) → InRange (coordinate w)
 coordinate-in w = record { low = omega whole; high = omega whole }
 
 -- one increment on
 abbrev grown : Axis → Machine → Units
 grown axis m = moved (stepped axis m) (units (pos (m .increment)))
 
-module _ (g : Given) (s : State) (w : ℕ) (here : g .memory (s .machine .counter) ≡ Word w) (lit : w / 16384 ≡ 1) where
+-- what a word lights: its place, where it is lit
+abbrev mark : ℕ → Pixel → List Pixel
+mark w p = pick (bit 14 w) (p ∷ []) []
+
+-- and what of it is stored
+mark-shown : (h : Shape) (l on : Bool) (ps : List Pixel) → pick (l && on) (inside h ps) [] ≡ pick on (inside h (pick l ps [])) []
+unfolding inside
+mark-shown h true on ps = refl
+mark-shown h false true ps = refl
+mark-shown h false false ps = refl
+
+module _ (g : Given) (s : State) (w : ℕ) (here : g .memory (s .machine .counter) ≡ Word w) (data-word : Off 15 w) where
   abbrev m : Machine
   m = s .machine
 
-  -- no refusal: the word is a lit graph word, and the coordinate that it steps stays in range
+  -- no refusal: the word is a graph word, and the coordinate that it steps stays in range
   free : (axis : Axis) → m .mode ≡ modeOf axis → InRange (grown axis m) → refusal g m ≡ 0
   unfolding refusal refusals fetchRefusals firstRefusals secondRefusals wayRefusals firstOf
-  free AlongX five fits = rw (here, five, decoded AlongX w lit, clear-15 w lit, in-range .1 fits, in-range .1 (coordinate-in w))
-  free AlongY four fits = rw (here, four, decoded AlongY w lit, clear-15 w lit, in-range .1 fits, in-range .1 (coordinate-in w))
+  free AlongX five fits = rw (here, five, decoded AlongX w data-word, clear-15 w data-word, in-range .1 fits, in-range .1 (coordinate-in w))
+  free AlongY four fits = rw (here, four, decoded AlongY w data-word, clear-15 w data-word, in-range .1 fits, in-range .1 (coordinate-in w))
 
   -- the point is plotted where the machine stands, and the step comes after it
   one-word : (axis : Axis) → m .mode ≡ modeOf axis → InRange (grown axis m)
-      → on g s ≡ went axis s (next (m .counter)) (grown axis m) (coordinate w) 1 (pixelOn axis (shapeOf m) (stepped axis m) (coordinate w) ∷ [])
+      → on g s ≡ went axis s (next (m .counter)) (grown axis m) (coordinate w) 1 (mark w (pixelOn axis (shapeOf m) (stepped axis m) (coordinate w)))
   unfolding done
-  one-word AlongX five fits = ap (after s) (step-done g m (free AlongX five fits)) ∙ rw (here, five, decoded AlongX w lit)
-  one-word AlongY four fits = ap (after s) (step-done g m (free AlongY four fits)) ∙ rw (here, four, decoded AlongY w lit)
+  one-word AlongX five fits = ap (after s) (step-done g m (free AlongX five fits)) ∙ rw (here, five, decoded AlongX w data-word, mark-shown (shapeOf m) (bit 14 w) (m .write) (pixelOn AlongX (shapeOf m) (m .x) (coordinate w) ∷ []))
+  one-word AlongY four fits = ap (after s) (step-done g m (free AlongY four fits)) ∙ rw (here, four, decoded AlongY w data-word, mark-shown (shapeOf m) (bit 14 w) (m .write) (pixelOn AlongY (shapeOf m) (m .y) (coordinate w) ∷ []))
 
 -- ---- one word after the other
 shown-append : (m : Machine) (ps qs : List Pixel) → shown m (ps ++ qs) ≡ shown m ps ++ shown m qs
@@ -118,15 +126,20 @@ from-here x g = omega (whole, add x (pos (0 * g)))
 
 -- the state after the first word, and the rest from there
 abbrev begins : Axis → State → ℕ → State
-begins axis s w = went axis s (next (s .machine .counter)) (grown axis (s .machine)) (coordinate w) 1 (pixelOn axis (shapeOf (s .machine)) (stepped axis (s .machine)) (coordinate w) ∷ [])
+begins axis s w = went axis s (next (s .machine .counter)) (grown axis (s .machine)) (coordinate w) 1 (mark w (pixelOn axis (shapeOf (s .machine)) (stepped axis (s .machine)) (coordinate w)))
+
+-- a mark before those of the other words
+mark-first : (l : Bool) (p : Pixel) (ps : List Pixel) → pick l (p ∷ []) [] ++ ps ≡ pick l (p ∷ ps) ps
+mark-first true p ps = refl
+mark-first false p ps = refl
 
 -- the same end, counted from the first word and from the second
 same-end : (axis : Axis) (s : State) (a w : ℕ) (x : ℤ) (v : Units) (g : ℕ) (ws : List ℕ) → let h = shapeOf (s .machine) in
-    went axis s a (units ((x +ℤ pos g) +ℤ pos (length ws * g))) v (1 + length ws) (pixelOn axis h (units x) (coordinate w) ∷ weeks axis h (x +ℤ pos g) g 0 ws)
-    ≡ went axis s a (units (x +ℤ pos (length (w ∷ ws) * g))) v (length (w ∷ ws)) (weeks axis h x g 0 (w ∷ ws))
+    went axis s a (units ((x +ℤ pos g) +ℤ pos (length ws * g))) v (1 + length ws) (mark w (pixelOn axis h (units x) (coordinate w)) ++ ofLit ws (weeks axis h (x +ℤ pos g) g 0 ws))
+    ≡ went axis s a (units (x +ℤ pos (length (w ∷ ws) * g))) v (length (w ∷ ws)) (ofLit (w ∷ ws) (weeks axis h x g 0 (w ∷ ws)))
 same-end axis s a w x v g ws =
     let e : 1 + length ws ≡ suc (length ws) = omega arith in
-    rw (further x g (length ws), shift axis (shapeOf (s .machine)) x g 0 ws, from-here x g, e)
+    rw (further x g (length ws), shift axis (shapeOf (s .machine)) x g 0 ws, from-here x g, e, mark-first)
 
 the-rest : (axis : Axis) (s : State) (w : ℕ) (ws : List ℕ) → plotted axis (begins axis s w) ws ≡ plotted axis s (w ∷ ws)
 unfolding moved
@@ -150,11 +163,11 @@ unfolding moved
 still-ready AlongX g s w ws r =
     let x = s .machine .x .0 in
     let i = s .machine .increment in
-    record { running = r .running; mode = r .mode; words = r .words .1; lit = r .lit .1; low = first-fits AlongX g s w ws r .low; room = rw (further x i (length ws)) (r .room) }
+    record { running = r .running; mode = r .mode; words = r .words .1; data-words = r .data-words .1; low = first-fits AlongX g s w ws r .low; room = rw (further x i (length ws)) (r .room) }
 still-ready AlongY g s w ws r =
     let y = s .machine .y .0 in
     let i = s .machine .increment in
-    record { running = r .running; mode = r .mode; words = r .words .1; lit = r .lit .1; low = first-fits AlongY g s w ws r .low; room = rw (further y i (length ws)) (r .room) }
+    record { running = r .running; mode = r .mode; words = r .words .1; data-words = r .data-words .1; low = first-fits AlongY g s w ws r .low; room = rw (further y i (length ws)) (r .room) }
 
 -- ---- the theorem
 pub plot-then-step : (axis : Axis) (g : Given) (s : State) (ws : List ℕ) → Ready axis g s ws → run g (length ws) s ≡ plotted axis s ws
@@ -162,7 +175,7 @@ unfolding run
 plot-then-step axis g s [] r = sym (went-nowhere axis s _ (ap units (from-here (stepped axis (s .machine) .0) (s .machine .increment))))
 plot-then-step axis g s (w ∷ ws) r =
     run-turn g (length ws) s (r .running)
-    ∙ ap (run g (length ws)) (one-word g s w (r .words .0) (r .lit .0) axis (r .mode) (first-fits axis g s w ws r))
+    ∙ ap (run g (length ws)) (one-word g s w (r .words .0) (r .data-words .0) axis (r .mode) (first-fits axis g s w ws r))
     ∙ plot-then-step axis g (begins axis s w) ws (still-ready axis g s w ws r)
     ∙ the-rest axis s w ws
 
@@ -179,3 +192,8 @@ week-at axis h x g k ws d p = from-j axis h x g 0 k ws d p ∙ rw zero-add
 
 pub first-week : (axis : Axis) (h : Shape) (x : ℤ) (g w : ℕ) (ws : List ℕ) (d : Pixel) → getD (weeks axis h x g 0 (w ∷ ws)) 0 d ≡ pixelOn axis h (units x) (coordinate w)
 first-week axis h x g w ws d = rw (from-here x g)
+
+-- where every word is lit, the places of the lit ones are all
+pub all-lit : (axis : Axis) (h : Shape) (x : ℤ) (g j : ℕ) (ws : List ℕ) → AllLit ws → ofLit ws (weeks axis h x g j ws) ≡ weeks axis h x g j ws
+all-lit axis h x g j [] a = refl
+all-lit axis h x g j (w ∷ ws) a = rw (eq-eqb (w / 16384 % 2) 1 (a .0), all-lit axis h x g (suc j) ws (a .1))

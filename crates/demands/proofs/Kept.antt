@@ -46,7 +46,7 @@ pub pen-low : (m : Machine) → Fits m → m .value < shapeOf m .base
 pen-low m f = below-four .1 (f .value)
 
 -- ---- a step and a run
-step-fits : (g : Given) (m : Machine) → Fits m → Fits (step g m .machine)
+pub step-fits : (g : Given) (m : Machine) → Fits m → Fits (step g m .machine)
 step-fits g m f = fits (step g m .machine) .0 (step-ranged g m (fits m .1 f))
 
 pub run-fits : (g : Given) (b : ℕ) (s : State) → Fits (s .machine) → Fits (run g b s .machine)

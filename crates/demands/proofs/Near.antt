@@ -2,10 +2,13 @@
 use Prim.Native.Nat.{ℕ, _+_, _*_, _-_, _≤_, _<_}
 use mathlib.Core.Path.{_≡_, ap}
 use native.Mathlib.Nat.{mul-le-mul-left}
-use lib.IntN.{ℤ, pos, natAbs, _-ℤ_, _*ℤ_}
-use lib.Signed.{shrZ}
-use Rattle.whole.specs.Parts.{whole, up, dn, add, sub, mul, floor, abs}
+use mathlib.Core.Logic.{_↔_}
+use lib.IntN.{ℤ, pos, natAbs, _+ℤ_, _-ℤ_, _*ℤ_}
+use lib.Signed.{shrZ, _≤ℤ_, _<ℤ_}
+use Rattle.whole.specs.Parts.{whole, up, dn, add, sub, mul, floor, floor-is, abs}
+use Rattle.definition.specs.Units.{pixelsOf}
 use Rattle.definition.specs.Vector.{rounded}
+use Rattle.definition.specs.declared.Units.{Units}
 use Rattle.definition.proofs.VectorLaws.{top, top-parts}
 use Rattle.demands.specs.Exact.{exact}
 
@@ -74,3 +77,14 @@ near x y n i some within =
 -- where n is 0: d times the pixel of an end differs from it by at most d - 1
 pub near-end : (d : ℕ) (x : ℤ) → 0 < d → natAbs (pos d *ℤ shrZ x d -ℤ x) ≤ d - 1
 near-end d x h = omega (whole, floor x d h, mul (pos d) (shrZ x d), sub (pos d *ℤ shrZ x d) x, abs (pos d *ℤ shrZ x d -ℤ x))
+
+-- ---- a pixel of d units is the quotient rounded down, and nothing else is
+pub pixel-floor : (d : ℕ) (u : Units) (p : ℤ) → 0 < d → (pixelsOf d u .0 ≡ p) ↔ (((pos d *ℤ p) ≤ℤ u .0) × (u .0 <ℤ (pos d *ℤ p +ℤ pos d)))
+unfolding pixelsOf
+pixel-floor d u p h = (λ e. there (rw e at (floor (u .0) d h)), λ w. back (w .0) (w .1))
+  where
+    there : (d * up p + dn (u .0) ≤ up (u .0) + d * dn p) × (up (u .0) + d * dn p < d * up p + dn (u .0) + d) → ((pos d *ℤ p) ≤ℤ u .0) × (u .0 <ℤ (pos d *ℤ p +ℤ pos d))
+    there f = (omega (whole, f, mul (pos d) p), omega (whole, f, mul (pos d) p, add (pos d *ℤ p) (pos d)))
+
+    back : (pos d *ℤ p) ≤ℤ u .0 → u .0 <ℤ (pos d *ℤ p +ℤ pos d) → shrZ (u .0) d ≡ p
+    back l k = floor-is (u .0) p d h (omega (whole, mul (pos d) p)) (omega (whole, mul (pos d) p, add (pos d *ℤ p) (pos d)))

@@ -1,8 +1,8 @@
 -- The answers of start, clear and read-pixel, and of `plot`, each exactly when.
 use Prim.Native.Nat.{ℕ, _≤_, _<_, _%_}
-use mathlib.Core.Bool.{true}
 use mathlib.Core.List.{List, [], _∷_, _++_}
-use mathlib.Core.Path.{_≡_, refl, ap}
+use mathlib.Core.Bool.{Bool, true, false}
+use mathlib.Core.Path.{_≡_, refl, sym, ap, _∙_}
 use mathlib.Core.Logic.{_⊎_, _↔_}
 use native.Mathlib.Omega.{arith}
 use native.Mathlib.Decide.{ℕ-discrete}
@@ -20,9 +20,11 @@ use Rattle.definition.specs.declared.Machine.{Machine}
 use Rattle.definition.specs.declared.Started.{Started}
 use Rattle.definition.specs.declared.Read.{Read}
 use Rattle.definition.proofs.Exactly.{exactly, none-holds}
-use Rattle.definition.proofs.Plain.{_so_, _and_, _or_, itself, is-less, is-equal, not-equal, is-mostZ, is-lessZ, not-true, not-false, both-true, either-true, failing, never}
+use Rattle.definition.proofs.Plain.{_so_, _and_, _or_, itself, is-less, is-equal, not-equal, not-true, not-false, either-true, failing, never}
 use Rattle.demands.specs.Conditions.{Fits, InField}
+use Rattle.demands.specs.Strokes.{seen}
 use Rattle.demands.proofs.Kept.{fits}
+use Rattle.demands.proofs.Members.{in-field}
 use Rattle.demands.proofs.CallAnswers.{never-19}
 
 -- ---- start
@@ -59,12 +61,6 @@ module _ (im : List ℕ) where
 
 -- ---- read-pixel
 module _ (s : Shape) (im : List ℕ) (p : Pixel) where
-  in-field : (inField s p ≡ true) ↔ InField s p
-  unfolding inField
-  in-field =
-      both-true so (both-true so is-mostZ and is-lessZ) and (both-true so is-mostZ and is-lessZ)
-      so (λ w. record { x = w .0; y = w .1 }, λ f. (f .x, f .y))
-
   pub read-11 : (readCall s im p ≡ record { answer = 11; digit = 0 }) ↔ (length im ≡ imageBytes → ⊥)
   unfolding readCall imageDoors fieldDoors
   read-11 = (λ e. given .0 (ap (λ (r : Read). r .answer) e), λ h. rw (given .1 h))
@@ -77,7 +73,7 @@ module _ (s : Shape) (im : List ℕ) (p : Pixel) where
   read-31 = (λ e. given .0 (ap (λ (r : Read). r .answer) e), λ h. rw (given .1 h))
     where
       given : (firstOf (imageDoors im ++ fieldDoors s p) ≡ 31) ↔ ((length im ≡ imageBytes) × (InField s p → ⊥))
-      given = exactly 31 (imageDoors im ++ fieldDoors s p) (omega arith) so (not-false so is-equal) and (not-true so failing so never in-field)
+      given = exactly 31 (imageDoors im ++ fieldDoors s p) (omega arith) so (not-false so is-equal) and (not-true so failing so never (in-field s p))
 
   pub read-0 : (readCall s im p ≡ record { answer = 0; digit = digitAt s im (natAbs (p .x .0)) (natAbs (p .y .0)) }) ↔ ((length im ≡ imageBytes) × InField s p)
   unfolding readCall imageDoors fieldDoors
@@ -85,8 +81,19 @@ module _ (s : Shape) (im : List ℕ) (p : Pixel) where
     where
       given : (firstOf (imageDoors im ++ fieldDoors s p) ≡ 0) ↔ ((length im ≡ imageBytes) × InField s p)
       given =
-          none-holds (imageDoors im ++ fieldDoors s p) refl so (not-false so is-equal) and (not-false so in-field) and itself
+          none-holds (imageDoors im ++ fieldDoors s p) refl so (not-false so is-equal) and (not-false so in-field s p) and itself
           so (λ w. (w .0, w .1 .0), λ w. (w .0, (w .1, tt)))
+
+-- a pixel reads alike in two images of one length, where its digit is the same in both
+pub reads-alike : (s : Shape) (im im′ : List ℕ) (p : Pixel) → length im′ ≡ length im → (length im ≡ imageBytes → InField s p → seen s im′ p ≡ seen s im p) → readCall s im′ p ≡ readCall s im p
+reads-alike s im im′ p l h = go (ℕ-discrete (length im) imageBytes) (inField s p) refl
+  where
+    go : Dec (length im ≡ imageBytes) → (b : Bool) → inField s p ≡ b → readCall s im′ p ≡ readCall s im p
+    go (no n) b e = read-11 s im′ p .1 (λ k. n (sym l ∙ k)) ∙ sym (read-11 s im p .1 n)
+    go (yes k) true e =
+        let f = in-field s p .0 e in
+        read-0 s im′ p .1 (l ∙ k, f) ∙ ap (λ (d : ℕ). let r : Read = record { answer = 0; digit = d } in r) (h k f) ∙ sym (read-0 s im p .1 (k, f))
+    go (yes k) false e = let n : InField s p → ⊥ = λ f. failing .0 e (in-field s p .1 f) in read-31 s im′ p .1 (l ∙ k, n) ∙ sym (read-31 s im p .1 (k, n))
 
 -- ---- plot
 same : {a b : ℕ} → pos a ≡ pos b → a ≡ b

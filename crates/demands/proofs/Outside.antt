@@ -1,7 +1,7 @@
 -- Words outside the header and the segments make no difference.
 use Prim.Native.Nat.{ℕ, zero, suc, _+_, _*_, _%_, _≤_, _<_}
 use mathlib.Core.Bool.{not}
-use mathlib.Core.List.{List, _++_}
+use mathlib.Core.List.{List, [], _∷_, _++_}
 use mathlib.Core.Path.{_≡_, refl, sym, ap, _∙_, fun-ext}
 use native.Mathlib.Omega.{arith}
 use native.Mathlib.Decide.{decLe}
@@ -10,7 +10,10 @@ use lib.ListN.{length, getD, length-append, List·getD-append}
 use borrow.Author.Tests.{le-leb}
 use Rattle.definition.specs.Choice.{pick, firstOf}
 use Rattle.definition.specs.File.{tag, segments, offset, size, keepBelow, headDoors, segmentDoors, fileDoors, segmentOf, placeOf, fetch}
+use Rattle.definition.specs.Image.{blank}
+use Rattle.definition.specs.Machine.{fresh}
 use Rattle.definition.specs.Calls.{plain, checkCall, runDoors, runDoor, runCall}
+use Rattle.definition.specs.Plot.{wordsIn, inputDoors, plotBudget, plotLine}
 use Rattle.definition.specs.declared.Unfetched.the-variants.{Odd, NoSegment, NoPlace}
 use Rattle.definition.specs.declared.Fetched.{Fetched}
 use Rattle.definition.specs.declared.Fetched.the-variants.{Word, Refused}
@@ -38,9 +41,13 @@ module _ (f g : List ℕ) (h : SameHeader f g) where
   same-keep l zero p = refl
   same-keep l (suc i) p = rw (same-keep l i (omega arith), same-offset i p, same-size i p, same-segments, l)
 
+  same-doors : length f ≡ length g → fileDoors f ≡ fileDoors g
+  unfolding fileDoors headDoors segmentDoors
+  same-doors l = rw (same-keep l (segments f) (omega arith), same-tag, same-segments, l)
+
   pub same-check : length f ≡ length g → checkCall f ≡ checkCall g
-  unfolding checkCall fileDoors headDoors segmentDoors
-  same-check l = rw (same-keep l (segments f) (omega arith), same-tag, same-segments, l)
+  unfolding checkCall
+  same-check l = rw (same-doors l)
 
 -- ---- the fetch, and so everything that reads the file by it
 module _ (f g : List ℕ) (h : SameWords f g) where
@@ -59,6 +66,11 @@ module _ (f g : List ℕ) (h : SameWords f g) where
   same-memory : fetch f ≡ fetch g
   same-memory = fun-ext same-fetch
 
+  -- of one length, accepted or refused
+  pub alike-run : length f ≡ length g → (m : Machine) (im : List ℕ) (b : ℕ) → runCall (plain f) m im b ≡ runCall (plain g) m im b
+  unfolding runCall runDoor runDoors
+  alike-run l m im b = rw (same-doors f g (h .headers) l, same-memory)
+
   -- both files are accepted, so that their doors are open alike
   module _ (p : Accepted f) (q : Accepted g) (m : Machine) (im : List ℕ) (b : ℕ) where
     same-door : runDoor (plain f) m im b ≡ runDoor (plain g) m im b
@@ -71,6 +83,23 @@ module _ (f g : List ℕ) (h : SameWords f g) where
     pub same-run : runCall (plain f) m im b ≡ runCall (plain g) m im b
     unfolding runCall
     same-run = rw (same-door, same-memory)
+
+-- ---- the line of two inputs of one length
+words-length : (cs bs : List ℕ) → length cs ≡ length bs → length (wordsIn cs) ≡ length (wordsIn bs)
+unfolding wordsIn
+words-length [] [] l = refl
+words-length [] (b ∷ bs) l = absurd (omega arith)
+words-length (a ∷ cs) [] l = absurd (omega arith)
+words-length (a ∷ []) (b ∷ []) l = refl
+words-length (a ∷ []) (b ∷ d ∷ bs) l = absurd (omega arith)
+words-length (a ∷ c ∷ cs) (b ∷ []) l = absurd (omega arith)
+words-length (a ∷ c ∷ cs) (b ∷ d ∷ bs) l = ap suc (words-length cs bs (omega arith))
+
+pub alike-line : (cs bs : List ℕ) → SameWords (wordsIn cs) (wordsIn bs) → length cs ≡ length bs → plotLine cs ≡ plotLine bs
+unfolding plotLine inputDoors runDoors
+alike-line cs bs h l =
+    let k = words-length cs bs l in
+    rw (l, same-doors (wordsIn cs) (wordsIn bs) (h .headers) k, alike-run (wordsIn cs) (wordsIn bs) h k fresh blank plotBudget)
 
 -- ---- for one: words after the end of an accepted file
 module _ (f more : List ℕ) (p : Accepted f) where

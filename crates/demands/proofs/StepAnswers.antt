@@ -137,7 +137,7 @@ module _ (g : Given) (m : Machine) where
       so (λ q. (record { begins = q .0; fetched = q .1 .0; clear = q .1 .1 .0 }, q .1 .1 .1), λ q. (q .0 .begins, (q .0 .fetched, (q .0 .clear, q .1))))
 
   -- and no refusal: the step completes
-  refused-0 : Fits m → (refusal g m ≡ 0) ↔ (Continues g m × (InRange (newX g m) × InRange (newY g m)))
+  pub refused-0 : Fits m → (refusal g m ≡ 0) ↔ (Continues g m × (InRange (newX g m) × InRange (newY g m)))
   unfolding refusal refusals fetchRefusals firstRefusals secondRefusals wayRefusals
   refused-0 f =
       none-holds (refusals m (first g m) (instruction g m) (second g m)) refl

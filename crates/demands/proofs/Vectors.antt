@@ -7,10 +7,10 @@ use lib.ListN.{length, getD}
 use lib.IntN.{ℤ, pos, natAbs, _-ℤ_, _*ℤ_}
 use lib.Signed.{shrZ}
 use borrow.Author.Tests.{eq-eqb, ne-eqb}
-use Rattle.whole.specs.Parts.{whole, up, dn, sub, abs, size}
+use Rattle.whole.specs.Parts.{whole, up, dn, sub, abs, size, floor-is}
 use Rattle.definition.specs.Units.{pixel, pixelsOf}
 use Rattle.definition.specs.Image.{Shape, square, pixelAt, inside, Pen, stores}
-use Rattle.definition.specs.Vector.{longer, rounded, nth, numbered, vector}
+use Rattle.definition.specs.Vector.{apartX, apartY, longer, rounded, nth, numbered, vector}
 use Rattle.definition.specs.declared.Units.{Units}
 use Rattle.definition.specs.declared.Pixel.{Pixel}
 use Rattle.definition.proofs.VectorLaws.{numbered-length, top, top-parts, along, one-formula}
@@ -106,6 +106,37 @@ module _ (a b : Pixel) where
           ∙ numbered-same (nth b a) (λ i. nth a b (suc (longer a b) - suc i)) (suc (longer a b)) (nth-turned some)
           ∙ sym (numbered-reverse (nth a b) (suc (longer a b)))
           ∙ sym (ap reverse (vector-numbered a b h))
+
+-- ---- the ends
+-- along one axis, pixel 0 is at the start, and pixel n, which is pixel 0 of the way back, at the end
+rounded-first : (p c : ℤ) (n : ℕ) → 0 < n → rounded p c n 0 ≡ p
+unfolding rounded
+rounded-first p c n h = floor-is (top p c n 0) p (2 * n) (omega whole) (omega (whole, top-parts p c n 0)) (omega (whole, top-parts p c n 0))
+
+rounded-last : (p q : ℤ) (n : ℕ) → 0 < n → rounded p (q -ℤ p) n n ≡ q
+rounded-last p q n h = ap (rounded p (q -ℤ p) n) (omega whole) ∙ sym (turned p q n 0 (omega whole)) ∙ rounded-first q (p -ℤ q) n h
+
+module _ (a b d : Pixel) where
+  pub vector-first : getD (vector a b) 0 d ≡ a
+  unfolding along
+  vector-first = go (ℕ-discrete (longer a b) 0)
+    where
+      go : Dec (longer a b ≡ 0) → getD (vector a b) 0 d ≡ a
+      go (yes e) = ap (λ (l : List Pixel). getD l 0 d) (vector-point a b e)
+      go (no h) =
+          let some : 0 < longer a b = omega whole in
+          vector-at a b 0 d some (omega whole) ∙ rw (rounded-first (a .x .0) (apartX a b) (longer a b) some, rounded-first (a .y .0) (apartY a b) (longer a b) some)
+
+  pub vector-last : getD (vector a b) (longer a b) d ≡ b
+  unfolding along
+  vector-last = go (ℕ-discrete (longer a b) 0)
+    where
+      go : Dec (longer a b ≡ 0) → getD (vector a b) (longer a b) d ≡ b
+      go (yes e) = rw (vector-point a b e, e) (sym (one-point a b e))
+      go (no h) =
+          let some : 0 < longer a b = omega whole in
+          vector-at a b (longer a b) d some (omega whole)
+          ∙ rw (rounded-last (a .x .0) (b .x .0) (longer a b) some, rounded-last (a .y .0) (b .y .0) (longer a b) some)
 
 -- ---- how near, pixel by pixel, with two units a pixel
 module _ (x y x′ y′ : Units) where

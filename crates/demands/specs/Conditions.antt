@@ -5,7 +5,7 @@ use mathlib.Core.List.{List}
 use mathlib.Core.Path.{_≡_}
 use mathlib.Core.Logic.{_⊎_}
 use lib.ListN.{length, getD}
-use lib.IntN.{ℤ, pos, negsuc}
+use lib.IntN.{ℤ, pos, negsuc, _+ℤ_}
 use lib.Signed.{_≤ℤ_, _<ℤ_}
 use Rattle.definition.specs.Image.{Shape, imageBytes}
 use Rattle.definition.specs.File.{tag, segments, offset, size, header, wordIn, numberIn}
@@ -126,6 +126,14 @@ newX g m = changed (m .x) (taken g m .x)
 
 abbrev pub newY : Given → Machine → Units
 newY g m = changed (m .y) (taken g m .y)
+
+-- 27's condition: the instruction gets as far as its move, and the move leaves the range
+abbrev pub MovesOut : Given → Machine → Type 0
+MovesOut g m = Continues g m × ((InRange (newX g m) → ⊥) ⊎ (InRange (newY g m) → ⊥))
+
+-- a coordinate moved by so many units is out of range
+abbrev pub Beyond : Units → Units → Type 0
+Beyond u d = ((u .0 +ℤ d .0) <ℤ negsuc 4095) ⊎ (pos 4095 <ℤ (u .0 +ℤ d .0))
 
 -- a status A that stops, and the latch as it stands after it
 abbrev pub Stops : ℕ → Type 0

@@ -3,3 +3,4 @@ pub mod Conditions
 pub mod Exact
 pub mod Graphs
 pub mod Outcomes
+pub mod Strokes

@@ -1,0 +1,68 @@
+-- A stroke of modes 1 and 2 is a pixel of the vector between the positions before and after its instruction, and lies near the exact line.
+use Prim.Native.Nat.{ℕ, suc, _≤_, _<_}
+use mathlib.Core.List.{List, [], _∷_}
+use mathlib.Core.Path.{_≡_, sym, ap, subst, _∙_}
+use mathlib.Core.Logic.{_⊎_, ⊎-elim}
+use native.Mathlib.Omega.{arith}
+use native.Mathlib.Numerals.{add-one}
+use lib.ListN.{length, getD}
+use Rattle.definition.specs.Image.{square, pixelAt}
+use Rattle.definition.specs.Vector.{longer, vector}
+use Rattle.definition.specs.Step.{Given, step}
+use Rattle.definition.specs.Run.{State, run}
+use Rattle.definition.specs.declared.Pixel.{Pixel}
+use Rattle.definition.specs.declared.Machine.{Machine}
+use Rattle.definition.proofs.StepLaws.{on, run-turn}
+use Rattle.demands.specs.Strokes.{In, Stroke, strokes, Lights, lightsBetween, OnVector}
+use Rattle.demands.proofs.Runs.{run-add}
+use Rattle.demands.proofs.Vectors.{vector-point, vector-length, vector-near, point-near}
+use Rattle.demands.proofs.Origins.{stroke-origin}
+use Rattle.demands.proofs.Places.{in-words}
+
+-- ---- the place of a member
+pub in-at : {A : Type 0} (a d : A) (xs : List A) → In a xs → (i : ℕ) × ((i < length xs) × (getD xs i d ≡ a))
+in-at a d [] h = absurd h
+in-at a d (x ∷ xs) h = ⊎-elim (λ e. (0, (omega arith, sym e))) (λ k. let r = in-at a d xs k in (suc (r .0), (let l = r .1 .0 in omega arith, r .1 .1))) h
+
+-- ---- a pixel of a vector, with its bound
+on-vector : (m m′ : Machine) (p : Pixel) → In p (vector (pixelAt square (m .x) (m .y)) (pixelAt square (m′ .x) (m′ .y))) → OnVector m m′ p
+on-vector m m′ p h =
+    let r = in-at p p (vector a b) h in
+    let k : r .0 ≤ longer a b = let l = r .1 .0 in omega (arith, vector-length a b) in
+    record {
+      i = r .0;
+      within = k;
+      is = r .1 .1;
+      near = λ some. rw (r .1 .1) at (vector-near (m .x) (m .y) (m′ .x) (m′ .y) (r .0) p some k);
+      one = λ e.
+          let q = point-near (m .x) (m .y) (m′ .x) (m′ .y) e in
+          let at-start : p ≡ a = ⊎-elim (λ t. t) (λ n. absurd n) (rw (vector-point a b e) at h) in
+          rw at-start ((q .0, q .1), (q .2, q .3));
+    }
+  where
+    a : Pixel
+    a = pixelAt square (m .x) (m .y)
+
+    b : Pixel
+    b = pixelAt square (m′ .x) (m′ .y)
+
+module _ (g : Given) where
+  one-further : (k : ℕ) (s : State) → run g k s .machine .status ≡ 0 → run g (suc k) s ≡ on g (run g k s)
+  unfolding run
+  one-further k s r = ap (λ (n : ℕ). run g n s) (sym (add-one k)) ∙ run-add g k 1 s ∙ run-turn g 0 (run g k s) r
+
+  -- a pixel that a vector lights, between the machine and the one that its step leaves
+  lit-vector : (m : Machine) (p : Pixel) → (m .mode ≡ 1) ⊎ (m .mode ≡ 2) → Lights g m p → OnVector m (step g m .machine) p
+  lit-vector m p h r = on-vector m (step g m .machine) p (⊎-elim (λ e. at-mode e (in-words g m p .0 r .pixel)) (λ e. at-mode e (in-words g m p .0 r .pixel)) h)
+    where
+      at-mode : {k : ℕ} → m .mode ≡ k → In p (lightsBetween (m .mode) m (step g m .machine)) → In p (lightsBetween k m (step g m .machine))
+      at-mode e i = subst (λ (k : ℕ). In p (lightsBetween k m (step g m .machine))) e i
+
+  pub vector-origin : (b : ℕ) (s : State) (t : Stroke) → In t (strokes g b s) → (t .machine .mode ≡ 1) ⊎ (t .machine .mode ≡ 2)
+      → (k : ℕ) × ((k < b) × ((t .machine ≡ run g k s .machine) × OnVector (run g k s .machine) (run g (suc k) s .machine) (t .pixel)))
+  vector-origin b s t h mode =
+      let d = stroke-origin g b s t .0 h in
+      let k = d .0 in
+      let m = run g k s .machine in
+      let same = d .1 .1 .1 .0 in
+      (k, (d .1 .0, (same, rw (one-further k s (d .1 .1 .0)) (lit-vector m (t .pixel) (rw same at mode) (d .1 .1 .1 .1)))))

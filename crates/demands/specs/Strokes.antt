@@ -1,0 +1,142 @@
+-- A run's strokes: every store that it makes, in order, read off the instructions that it completed; where a stroke comes from, and what strokes leave.
+use Prim.Native.Nat.{ℕ, _+_, _*_, _≤_, _<_}
+use mathlib.Core.Bool.{Bool, true, _&&_, _||_}
+use mathlib.Core.List.{List, [], _∷_, _++_}
+use mathlib.Core.Path.{_≡_}
+use mathlib.Core.Logic.{_⊎_}
+use lib.Dec.{eqb}
+use lib.ListN.{getD}
+use lib.IntN.{ℤ, pos, negℤ, natAbs, _-ℤ_, _*ℤ_}
+use lib.Signed.{leZ}
+use Rattle.definition.specs.Choice.{pick}
+use Rattle.definition.specs.Units.{units}
+use Rattle.definition.specs.Image.{Shape, pixelAt, digitAt, store}
+use Rattle.definition.specs.Words.{long, wordsOf}
+use Rattle.definition.specs.Vector.{longer, vector}
+use Rattle.definition.specs.Machine.{shapeOf, penOf}
+use Rattle.definition.specs.Step.{itemPixels, storedOf, done, Given, instruction, refusal, step}
+use Rattle.definition.specs.Run.{State}
+use Rattle.definition.specs.declared.Units.{Units}
+use Rattle.definition.specs.declared.Pixel.{Pixel}
+use Rattle.definition.specs.declared.Machine.{Machine}
+use Rattle.definition.specs.declared.Item.{Item}
+use Rattle.definition.specs.declared.Item.the-variants.{ShortVector, LongVector}
+use Rattle.definition.specs.declared.Instruction.the-variants.{Draws}
+use Rattle.demands.specs.Conditions.{InField, On, Off, word, more}
+use Rattle.demands.specs.Exact.{exact}
+use Rattle.demands.specs.Ledger.{Entry, completed}
+
+-- is one of a list
+abbrev pub In : {A : Type 0} → A → List A → Type 0
+In a [] = ⊥
+In a (b ∷ bs) = (a ≡ b) ⊎ In a bs
+
+-- ---- strokes
+-- a store: its pixel, and the machine as it was before the step, whose shape and pen it is made with
+pub record Stroke : Type 0 where
+  pub machine : Machine
+  pub pixel : Pixel
+
+abbrev pub strokesOf : Machine → List Pixel → List Stroke
+strokesOf m [] = []
+strokesOf m (p ∷ ps) = record { machine = m; pixel = p } ∷ strokesOf m ps
+
+-- those of instructions that a machine completes one after the other
+abbrev pub strokesBy : Machine → List Entry → List Stroke
+strokesBy m [] = []
+strokesBy m (e ∷ es) = strokesOf m (storedOf m (e .what) (e .second)) ++ strokesBy (done m (e .what) (e .second)) es
+
+-- of a run of budget b
+unfoldable pub strokes : Given → ℕ → State → List Stroke
+strokes g b s = strokesBy (s .machine) (completed g b s)
+
+-- an image with strokes stored in it, one after the other
+abbrev pub stroked : List ℕ → Stroke → List ℕ
+stroked im t = store (shapeOf (t .machine)) (penOf (t .machine)) im (natAbs (t .pixel .x .0)) (natAbs (t .pixel .y .0))
+
+abbrev pub drawn : List ℕ → List Stroke → List ℕ
+drawn im [] = im
+drawn im (t ∷ ts) = drawn (stroked im t) ts
+
+-- the words of instructions
+abbrev pub ledgerWords : List Entry → ℕ
+ledgerWords [] = 0
+ledgerWords (e ∷ es) = wordsOf (e .what) + ledgerWords es
+
+-- ---- where a stroke comes from
+-- the instruction at the machine's counter is completed, is a lit item with write on, and this pixel of the field is one of its pixels
+pub record Lights (g : Given) (m : Machine) (p : Pixel) : Type 0 where
+  pub free : refusal g m ≡ 0
+  pub writing : m .write ≡ true
+  pub item : Item
+  pub lit : instruction g m ≡ Draws true item
+  pub field : InField (shapeOf m) p
+  pub pixel : In p (itemPixels m item (more g m))
+
+-- the vector between the positions of two machines, and its n
+abbrev pub vectorBetween : Machine → Machine → List Pixel
+vectorBetween m m′ = vector (pixelAt (shapeOf m) (m .x) (m .y)) (pixelAt (shapeOf m) (m′ .x) (m′ .y))
+
+abbrev pub longerBetween : Machine → Machine → ℕ
+longerBetween m m′ = longer (pixelAt (shapeOf m) (m .x) (m .y)) (pixelAt (shapeOf m) (m′ .x) (m′ .y))
+
+-- what a lit data word lights, by its mode and the positions before and after its step: in modes 1 and 2 the vector between them, in modes 4 and 5 the pixel
+-- whose stepped coordinate is still the one before, in modes 3 and 6 the pixel of the position after
+abbrev pub lightsBetween : ℕ → Machine → Machine → List Pixel
+lightsBetween mode m m′ =
+    pick (eqb mode 1 || eqb mode 2) (vectorBetween m m′)
+    (pick (eqb mode 4) (pixelAt (shapeOf m) (m′ .x) (m .y) ∷ [])
+    (pick (eqb mode 5) (pixelAt (shapeOf m) (m .x) (m′ .y) ∷ [])
+    (pixelAt (shapeOf m) (m′ .x) (m′ .y) ∷ [])))
+
+-- the same as Lights, in words and positions alone
+pub record Plots (g : Given) (m : Machine) (p : Pixel) : Type 0 where
+  pub free : refusal g m ≡ 0
+  pub on : m .write ≡ true
+  pub data-word : Off 15 (word g m)
+  pub lit : On 14 (word g m)
+  pub field : InField (shapeOf m) p
+  pub pixel : In p (lightsBetween (m .mode) m (step g m .machine))
+
+-- 2n times a coordinate of pixel i differs from the numerator of its exact point, between two positions in units, by less than 2n
+abbrev pub Near : ℕ → ℕ → ℤ → Units → Units → Type 0
+Near n i z u u′ = natAbs (pos (2 * n) *ℤ z -ℤ exact (u .0) (u′ .0) n i) < 2 * n
+
+-- twice a coordinate is within 1 of either position
+abbrev pub AtEnds : ℤ → Units → Units → Type 0
+AtEnds z u u′ = (natAbs (pos 2 *ℤ z -ℤ u .0) ≤ 1) × (natAbs (pos 2 *ℤ z -ℤ u′ .0) ≤ 1)
+
+-- a pixel of the vector between the positions of two machines: pixel i of 0 to n, and near the exact line
+pub record OnVector (m m′ : Machine) (p : Pixel) : Type 0 where
+  pub i : ℕ
+  pub within : i ≤ longerBetween m m′
+  pub is : getD (vectorBetween m m′) i p ≡ p
+  pub near : 0 < longerBetween m m′ → Near (longerBetween m m′) i (p .x .0) (m .x) (m′ .x) × Near (longerBetween m m′) i (p .y .0) (m .y) (m′ .y)
+  pub one : longerBetween m m′ ≡ 0 → AtEnds (p .x .0) (m .x) (m′ .x) × AtEnds (p .y .0) (m .y) (m′ .y)
+
+-- a lit vector by (dx, dy) stands at the machine's counter, short or long
+abbrev pub VectorBy : Given → Machine → Units → Units → Type 0
+VectorBy g m dx dy = (instruction g m ≡ Draws true (ShortVector dx dy)) ⊎ ((instruction g m ≡ Draws true (LongVector dx)) × (long (more g m) ≡ dy))
+
+abbrev pub negated : Units → Units
+negated d = units (negℤ (d .0))
+
+-- ---- what strokes leave
+-- the digit that stands at a pixel of the field
+abbrev pub seen : Shape → List ℕ → Pixel → ℕ
+seen h im p = digitAt h im (natAbs (p .x .0)) (natAbs (p .y .0))
+
+abbrev pub sameNumber : ℤ → ℤ → Bool
+sameNumber a b = leZ a b && leZ b a
+
+abbrev pub samePixel : Pixel → Pixel → Bool
+samePixel p q = sameNumber (p .x .0) (q .x .0) && sameNumber (p .y .0) (q .y .0)
+
+-- what the strokes at a pixel make of the digit there, one after the other
+abbrev pub standing : Pixel → ℕ → List Stroke → ℕ
+standing p d [] = d
+standing p d (t ∷ ts) = standing p (pick (samePixel p (t .pixel)) (penOf (t .machine) d) d) ts
+
+-- no stroke of a list is at this pixel
+abbrev pub Unstruck : Pixel → List Stroke → Type 0
+Unstruck p ts = (t : Stroke) → In t ts → p ≡ t .pixel → ⊥
