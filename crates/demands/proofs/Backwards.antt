@@ -3,16 +3,16 @@ use Prim.Native.Nat.{ℕ}
 use mathlib.Core.Bool.{Bool, true, false}
 use mathlib.Core.List.{List, [], reverse}
 use mathlib.Core.Path.{_≡_, refl, sym, ap, subst, _∙_}
-use mathlib.Core.Logic.{_⊎_, ⊎-elim}
+use mathlib.Core.Logic.{⊎-elim}
 use lib.ListN.{length}
-use lib.IntN.{ℤ, negℤ, _+ℤ_}
+use lib.IntN.{negℤ, _+ℤ_}
 use Rattle.whole.specs.Parts.{whole, add, neg}
 use Rattle.definition.specs.Choice.{pick}
 use Rattle.definition.specs.Units.{units, moved}
 use Rattle.definition.specs.Image.{imageBytes, pixelAt, inside, stores}
 use Rattle.definition.specs.Words.{long}
 use Rattle.definition.specs.Vector.{vector}
-use Rattle.definition.specs.Machine.{shapeOf, penOf}
+use Rattle.definition.specs.Machine.{withCounter, withPosition, past, shapeOf, penOf}
 use Rattle.definition.specs.Step.{vectorBy, done, Given, instruction, refusal, Step, completes, step}
 use Rattle.definition.specs.declared.Units.{Units}
 use Rattle.definition.specs.declared.Pixel.{Pixel}
@@ -51,6 +51,12 @@ module _ (g : Given) (m : Machine) (dx dy : Units) (free : refusal g m ≡ 0) (i
   unfolding done
   after-pen = by-kind (λ t. (t .machine .value ≡ m .value) × (t .machine .write ≡ m .write)) (refl, refl) (λ e. (refl, refl))
 
+  pub after-machine : step g m .machine ≡ withPosition (withCounter m (step g m .machine .counter)) (moved (m .x) dx) (moved (m .y) dy)
+  unfolding done
+  after-machine =
+      by-kind (λ t. t .machine ≡ withPosition (withCounter m (t .machine .counter)) (moved (m .x) dx) (moved (m .y) dy)) refl
+      (λ e. ap (λ (d : Units). withPosition (withCounter m (past 2 (m .counter))) (moved (m .x) dx) (moved (m .y) d)) e)
+
   its-pixels : step g m .pixels ≡ shown m (vectorBy m dx dy)
   its-pixels = by-kind (λ t. t .pixels ≡ shown m (vectorBy m dx dy)) refl (λ e. ap (λ (d : Units). shown m (vectorBy m dx d)) e)
 
@@ -79,11 +85,14 @@ module _ (g : Given) (m : Machine) (dx dy : Units) (free : refusal g m ≡ 0) (i
   abbrev m′ : Machine
   m′ = step g m .machine
 
-  pub back-x : step g m′ .machine .x ≡ m .x
-  back-x = after-x g m′ (negated dx) (negated dy) free-back is-back ∙ ap (λ (u : Units). moved u (negated dx)) (after-x g m dx dy free is) ∙ back-again (m .x) dx
-
-  pub back-y : step g m′ .machine .y ≡ m .y
-  back-y = after-y g m′ (negated dx) (negated dy) free-back is-back ∙ ap (λ (u : Units). moved u (negated dy)) (after-y g m dx dy free is) ∙ back-again (m .y) dy
+  -- the machine is as before, but for its counter
+  pub back-machine : step g m′ .machine ≡ withCounter m (step g m′ .machine .counter)
+  back-machine =
+      let c = step g m′ .machine .counter in
+      after-machine g m′ (negated dx) (negated dy) free-back is-back
+      ∙ ap (λ (n : Machine). withPosition (withCounter n c) (moved (n .x) (negated dx)) (moved (n .y) (negated dy))) (after-machine g m dx dy free is)
+      ∙ ap (λ (u : Units). withPosition (withCounter m c) u (moved (moved (m .y) dy) (negated dy))) (back-again (m .x) dx)
+      ∙ ap (withPosition (withCounter m c) (m .x)) (back-again (m .y) dy)
 
   pub back-stores : step g m′ .pixels ≡ reverse (step g m .pixels)
   back-stores =

@@ -1,6 +1,5 @@
--- What the definition guarantees: the customer's three demands, and that every promise allows one outcome. Each theorem stands here with a proof of a
--- line; the proofs themselves are in the files that it names. The words of the statements are defined in specs/.
--- Every rule is a function that computes to an answer for every argument: each call ends, whatever it is given.
+-- What the definition guarantees: the customer's three demands, and that every promise allows one outcome. What a run draws is in Drawing.antt.
+-- Each theorem has a proof of a line here; the proofs themselves are in the files that it names. The words of the statements are defined in specs/.
 use Prim.Native.Nat.{ℕ, suc, _+_, _*_, _≤_, _<_, _%_}
 use mathlib.Core.Bool.{true, false}
 use mathlib.Core.List.{List, [], _∷_, _++_, reverse}
@@ -9,10 +8,11 @@ use mathlib.Core.Logic.{_⊎_, inl, inr, _↔_}
 use native.Mathlib.Omega.{arith}
 use lib.ListN.{length, getD}
 use lib.IntN.{ℤ, pos, natAbs, _+ℤ_, _-ℤ_, _*ℤ_}
-use Rattle.definition.specs.Units.{units}
+use lib.Signed.{_≤ℤ_, _<ℤ_}
+use Rattle.definition.specs.Units.{units, pixelsOf}
 use Rattle.definition.specs.Image.{Shape, square, imageBytes, blank, pixelAt, inside, stores, digitAt, Left, left}
 use Rattle.definition.specs.File.{tag, segments, offset, size, header, segmentOf, placeOf, fetch, numberIn}
-use Rattle.definition.specs.Words.{coordinate}
+use Rattle.definition.specs.Words.{shortX, shortY, long, coordinate}
 use Rattle.definition.specs.Vector.{longer, vector}
 use Rattle.definition.specs.Machine.{fresh, startedAt, withStatus, shapeOf, penOf}
 use Rattle.definition.specs.Step.{Given, first, second, refusal, step}
@@ -27,7 +27,7 @@ use Rattle.definition.specs.declared.Fetched.the-variants.{Word}
 use Rattle.definition.specs.declared.Ran.{Ran}
 use Rattle.definition.specs.declared.Started.{Started}
 use Rattle.definition.specs.declared.Read.{Read}
-use Rattle.demands.specs.Conditions.{Head, Keeps, Accepted, SameHeader, SameWords, Fits, Open, During, InField, On, NotBuilt, NoMode, Pair, word, more, Begins, FetchRefused, MovesOut, Stops, LatchIs}
+use Rattle.demands.specs.Conditions.{Head, Keeps, Accepted, SameHeader, SameWords, Fits, Open, During, InField, On, Off, NotBuilt, NoMode, Pair, word, more, Begins, FetchRefused, MovesOut, Beyond, Stops, LatchIs}
 use Rattle.demands.specs.Ledger.{completed, changes, settled}
 use Rattle.demands.specs.Graphs.{AlongX, AlongY, weeks, ofLit, shown, Ready, plotted}
 use Rattle.demands.specs.Exact.{exact}
@@ -42,6 +42,9 @@ use Rattle.demands.proofs.OtherCalls as others
 use Rattle.demands.proofs.Graphs as graphs
 use Rattle.demands.proofs.Drift as drift
 use Rattle.demands.proofs.Vectors as vectors
+use Rattle.demands.proofs.Near as near
+use Rattle.demands.proofs.MovesOut as moves
+use Rattle.demands.proofs.Strokes as strokes
 
 -- ==== Demand 1
 
@@ -60,6 +63,25 @@ step-reads-the-segments f g h p q m im = outside.same-run f g h p q m im 1
 -- for one: whatever words follow an accepted file
 pub words-after-the-file : (f more : List ℕ) → Accepted f → (m : Machine) (im : List ℕ) (b : ℕ) → runCall (plain f) m im b ≡ runCall (plain (f ++ more)) m im b
 words-after-the-file = outside.appended-run
+
+-- accepted or not: two files of one length with the same header and the same words in their segments; and so for the line of `plot`
+pub run-of-one-length : (f h : List ℕ) → SameWords f h → length f ≡ length h → (m : Machine) (im : List ℕ) (b : ℕ) → runCall (plain f) m im b ≡ runCall (plain h) m im b
+run-of-one-length = outside.alike-run
+
+pub step-of-one-length : (f h : List ℕ) → SameWords f h → length f ≡ length h → (m : Machine) (im : List ℕ) → stepCall (plain f) m im ≡ stepCall (plain h) m im
+step-of-one-length f h w l m im = outside.alike-run f h w l m im 1
+
+pub line-of-one-length : (bytes other : List ℕ) → SameWords (wordsIn bytes) (wordsIn other) → length bytes ≡ length other → plotLine bytes ≡ plotLine other
+line-of-one-length = outside.alike-line
+
+-- ---- each call ends
+-- The prover shows of every function of the code that it returns, whatever it is given: no statement here is needed for that. And no run makes more steps
+-- than its budget.
+pub run-steps : (g : Given) (b : ℕ) (s : State) → run g b s .counts .steps ≤ s .counts .steps + b
+run-steps = strokes.run-steps
+
+pub call-steps : (l : Lent) (m : Machine) (im : List ℕ) (b : ℕ) → runCall l m im b .result .counts .steps ≤ b
+call-steps = strokes.call-steps
 
 -- ---- what a refusal leaves
 -- at a door: the machine and the image as given, and counts of 0 (of start and clear: start-16, clear-11)
@@ -180,6 +202,33 @@ module _ (l : Lent) (m : Machine) (im : List ℕ) (b : ℕ) where
   pub run-27 : (answer ≡ 27) ↔ Ends (MovesOut g)
   run-27 = calls.run-ended l m im b 27 (λ e. omega arith) (inr (omega arith, omega arith)) _ (steps.step-27 g)
 
+-- 27 by the kind of the word. An order never gives it
+module _ (g : Given) (m : Machine) where
+  pub order-never-27 : Fits m → On 15 (word g m) → MovesOut g m → ⊥
+  order-never-27 = moves.order-stays g m
+
+  -- a vector or a relative point gives it exactly when X or Y and its move sum to less than -4,096 or more than 4,095; an absolute point never does; a graph
+  -- word exactly when the coordinate that it steps along and the increment sum to more than 4,095
+  module _ (off : Off 15 (word g m)) where
+    pub mode-1-27 : m .mode ≡ 1 → MovesOut g m ↔ ((numberIn (first g m) ≡ 0) × (Beyond (m .x) (shortX (word g m)) ⊎ Beyond (m .y) (shortY (word g m))))
+    mode-1-27 = moves.short-out g m off
+
+    pub mode-2-27 : m .mode ≡ 2
+        → MovesOut g m ↔ (((numberIn (first g m) ≡ 0) × ((numberIn (second g m) ≡ 0) × Off 15 (more g m))) × (Beyond (m .x) (long (word g m)) ⊎ Beyond (m .y) (long (more g m))))
+    mode-2-27 = moves.long-out g m off
+
+    pub mode-3-never-27 : m .mode ≡ 3 → MovesOut g m → ⊥
+    mode-3-never-27 = moves.absolute-stays g m off
+
+    pub mode-4-27 : Fits m → m .mode ≡ 4 → MovesOut g m ↔ ((numberIn (first g m) ≡ 0) × (pos 4095 <ℤ (m .y .0 +ℤ pos (m .increment))))
+    mode-4-27 = moves.graph-x-out g m off
+
+    pub mode-5-27 : Fits m → m .mode ≡ 5 → MovesOut g m ↔ ((numberIn (first g m) ≡ 0) × (pos 4095 <ℤ (m .x .0 +ℤ pos (m .increment))))
+    mode-5-27 = moves.graph-y-out g m off
+
+    pub mode-6-27 : m .mode ≡ 6 → MovesOut g m ↔ ((numberIn (first g m) ≡ 0) × (Beyond (m .x) (shortX (word g m)) ⊎ Beyond (m .y) (shortY (word g m))))
+    mode-6-27 = moves.relative-out g m off
+
 -- the other calls, and plot
 pub start-0 : (m : Machine) (a : ℕ) → (startCall m a ≡ record { answer = 0; machine = startedAt m a }) ↔ Fits m
 start-0 = others.start-0
@@ -235,10 +284,17 @@ pub row-k : (h : Shape) (y : ℤ) (g k : ℕ) (ws : List ℕ) (d : Pixel) → k 
     → getD (weeks AlongY h y g 0 ws) k d ≡ pixelAt h (coordinate (getD ws k 0)) (units (y +ℤ pos (k * g)))
 row-k = graphs.week-at AlongY
 
+pub row-0 : (h : Shape) (y : ℤ) (g w : ℕ) (ws : List ℕ) (d : Pixel) → getD (weeks AlongY h y g 0 (w ∷ ws)) 0 d ≡ pixelAt h (coordinate w) (units y)
+row-0 = graphs.first-week AlongY
+
 -- the image is the one before with the pixels of the lit words stored, and the position ends one increment past the last word
 pub week-picture : (g : Given) (s : State) (ws : List ℕ) → Ready AlongX g s ws
     → run g (length ws) s .image ≡ stores (shapeOf (s .machine)) (penOf (s .machine)) (s .image) (shown (s .machine) (ofLit ws (weeks AlongX (shapeOf (s .machine)) (s .machine .x .0) (s .machine .increment) 0 ws)))
 week-picture g s ws r = ap (λ (t : State). t .image) (graphs.plot-then-step AlongX g s ws r)
+
+pub row-picture : (g : Given) (s : State) (ws : List ℕ) → Ready AlongY g s ws
+    → run g (length ws) s .image ≡ stores (shapeOf (s .machine)) (penOf (s .machine)) (s .image) (shown (s .machine) (ofLit ws (weeks AlongY (shapeOf (s .machine)) (s .machine .y .0) (s .machine .increment) 0 ws)))
+row-picture g s ws r = ap (λ (t : State). t .image) (graphs.plot-then-step AlongY g s ws r)
 
 pub week-position : (g : Given) (s : State) (ws : List ℕ) → Ready AlongX g s ws → run g (length ws) s .machine .x ≡ units (s .machine .x .0 +ℤ pos (length ws * s .machine .increment))
 week-position g s ws r = ap (λ (t : State). t .machine .x) (graphs.plot-then-step AlongX g s ws r)
@@ -265,10 +321,17 @@ no-drift-y = drift.no-drift-y
 pub nothing-left-out : (g : Given) (b : ℕ) (s : State) → run g b s .counts .steps ≡ s .counts .steps + length (completed g b s)
 nothing-left-out = drift.completed-all
 
--- ---- a vector's pixels lie near the exact line
--- there are n + 1 of them
+-- ---- the pixel of a unit: where d units make a pixel, d p ≤ u < d p + d, and no other p
+pub pixel-floor : (d : ℕ) (u : Units) (p : ℤ) → 0 < d → (pixelsOf d u .0 ≡ p) ↔ (((pos d *ℤ p) ≤ℤ u .0) × (u .0 <ℤ (pos d *ℤ p +ℤ pos d)))
+pixel-floor = near.pixel-floor
+
+-- ---- a vector's pixels lie near the exact line (that a run stores them: vector-origin and vector-drawn, in Drawing.antt)
+-- there are n + 1 of them; pixel 0 is its start's, and pixel n its end's
 pub vector-length : (a b : Pixel) → length (vector a b) ≡ suc (longer a b)
 vector-length = vectors.vector-length
+
+pub vector-ends : (a b d : Pixel) → (getD (vector a b) 0 d ≡ a) × (getD (vector a b) (longer a b) d ≡ b)
+vector-ends a b d = (vectors.vector-first a b d, vectors.vector-last a b d)
 
 -- 2n times pixel i differs from its exact point's numerator by less than 2n, across and up
 pub vector-near : (x y x′ y′ : Units) (i : ℕ) (d : Pixel) → 0 < longer (pixelAt square x y) (pixelAt square x′ y′) → i ≤ longer (pixelAt square x y) (pixelAt square x′ y′)

@@ -1,43 +1,35 @@
--- What a run draws: every stroke of it, where each comes from, and what stands at a pixel after it. Each theorem stands here with a proof of a line, as in
--- Demands.antt; the words of the statements are defined in specs/Strokes.antt, Graphs.antt and Conditions.antt.
-use Prim.Native.Nat.{ℕ, suc, _+_, _*_, _≤_, _<_}
-use mathlib.Core.Bool.{Bool, true, false, not}
+-- What a run draws: every stroke of it, where each comes from, and what stands at a pixel after it. Each theorem has a proof of a line here, as in Demands.antt;
+-- the words of the statements are defined in specs/Strokes.antt, Graphs.antt and Conditions.antt.
+use Prim.Native.Nat.{ℕ, suc, _+_, _≤_, _<_}
+use mathlib.Core.Bool.{true, false}
 use mathlib.Core.List.{List, [], _∷_, _++_, reverse}
 use mathlib.Core.Path.{_≡_}
 use mathlib.Core.Logic.{_⊎_, _↔_}
 use lib.ListN.{length, getD}
-use lib.IntN.{ℤ, pos, _+ℤ_, _*ℤ_}
-use lib.Signed.{_≤ℤ_, _<ℤ_}
-use Rattle.definition.specs.Units.{pixelsOf, moved}
-use Rattle.definition.specs.Image.{Shape, square, imageBytes, inside, stores}
-use Rattle.definition.specs.File.{numberIn}
-use Rattle.definition.specs.Words.{move, shortX, shortY, long}
-use Rattle.definition.specs.Vector.{longer, vector}
-use Rattle.definition.specs.Machine.{next, withCounter, shapeOf, penOf}
-use Rattle.definition.specs.Step.{Given, first, second, refusal, step}
+use lib.IntN.{ℤ}
+use Rattle.definition.specs.Units.{moved}
+use Rattle.definition.specs.Image.{Shape, square, imageBytes, pixelAt, inside}
+use Rattle.definition.specs.Words.{bit, bits, shortX, shortY, long}
+use Rattle.definition.specs.Machine.{withCounter, shapeOf, penOf}
+use Rattle.definition.specs.Step.{Given, refusal, step}
 use Rattle.definition.specs.Run.{State, begun, after, run}
-use Rattle.definition.specs.Calls.{Lent, plain, given, runCall, readCall}
-use Rattle.definition.specs.Plot.{wordsIn, plotLine}
+use Rattle.definition.specs.Calls.{Lent, given, answered, runCall, readCall}
 use Rattle.definition.specs.declared.Units.{Units}
 use Rattle.definition.specs.declared.Pixel.{Pixel}
 use Rattle.definition.specs.declared.Machine.{Machine}
-use Rattle.demands.specs.Conditions.{SameWords, InRange, Fits, Open, During, InField, On, Off, word, more, MovesOut, Beyond}
+use Rattle.demands.specs.Conditions.{InRange, Fits, Open, During, InField, On, Off, word}
 use Rattle.demands.specs.Ledger.{completed}
-use Rattle.demands.specs.Graphs.{Axis, Lies, AllLit, weeks, ofLit, weekAt, Ready}
-use Rattle.demands.specs.Strokes.{In, Stroke, strokesOf, strokes, lightsBetween, drawn, ledgerWords, Lights, Plots, OnVector, VectorBy, negated, seen, standing, Unstruck}
+use Rattle.demands.specs.Graphs.{Axis, AllLit, stepped, weeks, ofLit, shown, weekAt, Ready, plotted}
+use Rattle.demands.specs.Strokes.{In, Stroke, strokesOf, strokes, strokePixels, drawn, ledgerWords, Lights, lightsBetween, Plots, vectorBetween, longerBetween, OnVector, LitVector, VectorWords, negated, Turned, seen, standing, Unstruck}
 use Rattle.demands.proofs.Strokes as all
 use Rattle.demands.proofs.Origins as origins
 use Rattle.demands.proofs.Places as places
 use Rattle.demands.proofs.VectorOrigins as vectors
-use Rattle.demands.proofs.Vectors as ends
 use Rattle.demands.proofs.Standing as stands
 use Rattle.demands.proofs.Graphs as graphs
+use Rattle.demands.proofs.WeekStrokes as in-order
 use Rattle.demands.proofs.Weeks as seen-weeks
-use Rattle.demands.proofs.Backwards as backwards
 use Rattle.demands.proofs.BackWords as words
-use Rattle.demands.proofs.MovesOut as moves
-use Rattle.demands.proofs.Near as near
-use Rattle.demands.proofs.Outside as outside
 
 -- ==== The strokes of a run
 
@@ -45,15 +37,12 @@ use Rattle.demands.proofs.Outside as outside
 pub run-image : (g : Given) (b : ℕ) (s : State) → run g b s .image ≡ drawn (s .image) (strokes g b s)
 run-image = all.run-image
 
--- the counts are of these strokes, and of the words of the completed instructions; and a run makes no more steps than its budget
+-- the counts are of these strokes, and of the words of the completed instructions (of the instructions themselves: nothing-left-out)
 pub run-stores : (g : Given) (b : ℕ) (s : State) → run g b s .counts .stores ≡ s .counts .stores + length (strokes g b s)
 run-stores = all.run-stores
 
 pub run-words : (g : Given) (b : ℕ) (s : State) → run g b s .counts .words ≡ s .counts .words + ledgerWords (completed g b s)
 run-words = all.run-words
-
-pub run-steps : (g : Given) (b : ℕ) (s : State) → run g b s .counts .steps ≤ s .counts .steps + b
-run-steps = all.run-steps
 
 -- and so of a call whose doors are open, whose counts begin at nothing
 module _ (l : Lent) (m : Machine) (im : List ℕ) (b : ℕ) (o : Open l m im b) where
@@ -65,9 +54,6 @@ module _ (l : Lent) (m : Machine) (im : List ℕ) (b : ℕ) (o : Open l m im b) 
 
   pub call-words : runCall l m im b .result .counts .words ≡ ledgerWords (completed (given l) b (begun m im))
   call-words = all.call-words l m im b o
-
-  pub call-steps : runCall l m im b .result .counts .steps ≤ b
-  call-steps = all.call-steps l m im b o
 
 -- a run of b + c strokes what a run of b does, and then what a run of c from there does
 pub strokes-in-a-row : (g : Given) (b c : ℕ) (s : State) → strokes g (b + c) s ≡ strokes g b s ++ strokes g c (run g b s)
@@ -102,13 +88,23 @@ pub vector-origin : (g : Given) (b : ℕ) (s : State) (t : Stroke) → In t (str
     → (k : ℕ) × ((k < b) × ((t .machine ≡ run g k s .machine) × OnVector (run g k s .machine) (run g (suc k) s .machine) (t .pixel)))
 vector-origin = vectors.vector-origin
 
--- a vector's pixel 0 is its start's, and its pixel n its end's
-pub vector-ends : (a b d : Pixel) → (getD (vector a b) 0 d ≡ a) × (getD (vector a b) (longer a b) d ≡ b)
-vector-ends a b d = (ends.vector-first a b d, ends.vector-last a b d)
+-- and the other way round: of a completed vector, lit and with write on, every pixel in the field is a stroke, its two ends among them
+module _ (g : Given) (b : ℕ) (s : State) (k : ℕ) (below : k < b) (running : run g k s .machine .status ≡ 0) (v : LitVector g (run g k s .machine)) where
+  abbrev m : Machine
+  m = run g k s .machine
 
--- where d units make a pixel: d p ≤ u < d p + d, and no other p
-pub pixel-floor : (d : ℕ) (u : Units) (p : ℤ) → 0 < d → (pixelsOf d u .0 ≡ p) ↔ (((pos d *ℤ p) ≤ℤ u .0) × (u .0 <ℤ (pos d *ℤ p +ℤ pos d)))
-pixel-floor = near.pixel-floor
+  abbrev m′ : Machine
+  m′ = run g (suc k) s .machine
+
+  pub vector-drawn : (i : ℕ) (d : Pixel) → i ≤ longerBetween m m′ → InField (shapeOf m) (getD (vectorBetween m m′) i d)
+      → In (record { machine = m; pixel = getD (vectorBetween m m′) i d }) (strokes g b s)
+  vector-drawn = vectors.vector-drawn g b s k below running v
+
+  pub start-drawn : InField (shapeOf m) (pixelAt (shapeOf m) (m .x) (m .y)) → In (record { machine = m; pixel = pixelAt (shapeOf m) (m .x) (m .y) }) (strokes g b s)
+  start-drawn = vectors.start-drawn g b s k below running v
+
+  pub end-drawn : InField (shapeOf m) (pixelAt (shapeOf m) (m′ .x) (m′ .y)) → In (record { machine = m; pixel = pixelAt (shapeOf m) (m′ .x) (m′ .y) }) (strokes g b s)
+  end-drawn = vectors.end-drawn g b s k below running v
 
 -- ==== What stands after a run, from a machine in range
 
@@ -132,86 +128,71 @@ module _ (g : Given) (b : ℕ) (s : State) (fits : Fits (s .machine)) where
 
 -- ==== Graph words, lit or blank, on either axis (the state after them: graph-y-plots-then-steps and graph-x-plots-then-steps of Demands.antt)
 
-module _ (axis : Axis) (g : Given) (s : State) (ws : List ℕ) (r : Ready axis g s ws) (fits : Fits (s .machine)) where
-  -- after them each lit one in the field reads the pixel value at its place: k increments from the start, at its own value
-  pub week-k-reads : (k : ℕ) → length (s .image) ≡ imageBytes → s .machine .write ≡ true → k < length ws → On 14 (getD ws k 0) → InField square (weekAt axis (s .machine) ws k)
-      → readCall square (run g (length ws) s .image) (weekAt axis (s .machine) ws k) ≡ record { answer = 0; digit = s .machine .value }
-  week-k-reads = seen-weeks.week-reads axis g s ws r fits
+module _ (axis : Axis) (g : Given) (s : State) (ws : List ℕ) (r : Ready axis g s ws) where
+  -- their strokes: the places of the lit ones in the field, in the order of the words, while write is on; each stored with the pen that the machine has before them
+  pub week-strokes : strokePixels (strokes g (length ws) s)
+      ≡ shown (s .machine) (ofLit ws (weeks axis (shapeOf (s .machine)) (stepped axis (s .machine) .0) (s .machine .increment) 0 ws))
+  week-strokes = in-order.week-strokes axis g s ws r
 
-  -- and every pixel that is not the place of a lit one reads as before
-  pub no-week-reads : (p : Pixel) → ((k : ℕ) → k < length ws → On 14 (getD ws k 0) → p ≡ weekAt axis (s .machine) ws k → ⊥)
-      → readCall square (run g (length ws) s .image) p ≡ readCall square (s .image) p
-  no-week-reads = seen-weeks.no-week-reads axis g s ws r fits
+  pub week-ink : (t : Stroke) → In t (strokes g (length ws) s) → (shapeOf (t .machine) ≡ shapeOf (s .machine)) × (penOf (t .machine) ≡ penOf (s .machine))
+  week-ink t = in-order.week-ink axis g s ws t r
+
+  module _ (fits : Fits (s .machine)) where
+    -- after them each lit one in the field reads the pixel value at its place: k increments from the start, at its own value
+    pub week-k-reads : (k : ℕ) → length (s .image) ≡ imageBytes → s .machine .write ≡ true → k < length ws → On 14 (getD ws k 0) → InField square (weekAt axis (s .machine) ws k)
+        → readCall square (run g (length ws) s .image) (weekAt axis (s .machine) ws k) ≡ record { answer = 0; digit = s .machine .value }
+    week-k-reads = seen-weeks.week-reads axis g s ws r fits
+
+    -- and every pixel that is not the place of a lit one reads as before
+    pub no-week-reads : (p : Pixel) → ((k : ℕ) → k < length ws → On 14 (getD ws k 0) → p ≡ weekAt axis (s .machine) ws k → ⊥)
+        → readCall square (run g (length ws) s .image) p ≡ readCall square (s .image) p
+    no-week-reads = seen-weeks.no-week-reads axis g s ws r fits
+
+-- the same of a call, with a budget of as many steps as there are words: all that it answers and leaves, and what a reader sees of it
+module _ (axis : Axis) (l : Lent) (m : Machine) (im ws : List ℕ) (o : Open l m im (length ws)) (r : Ready axis (given l) (begun m im) ws) where
+  pub call-weeks : runCall l m im (length ws) ≡ answered (plotted axis (begun m im) ws)
+  call-weeks = seen-weeks.call-weeks axis l m im ws o r
+
+  pub call-week-reads : (k : ℕ) → m .write ≡ true → k < length ws → On 14 (getD ws k 0) → InField square (weekAt axis m ws k)
+      → readCall square (runCall l m im (length ws) .image) (weekAt axis m ws k) ≡ record { answer = 0; digit = m .value }
+  call-week-reads = seen-weeks.call-week-reads axis l m im ws o r
+
+  pub call-no-week-reads : (p : Pixel) → ((k : ℕ) → k < length ws → On 14 (getD ws k 0) → p ≡ weekAt axis m ws k → ⊥)
+      → readCall square (runCall l m im (length ws) .image) p ≡ readCall square im p
+  call-no-week-reads = seen-weeks.call-no-week-reads axis l m im ws o r
 
 -- where every word is lit, all their places are
 pub all-lit : (axis : Axis) (h : Shape) (x : ℤ) (g j : ℕ) (ws : List ℕ) → AllLit ws → ofLit ws (weeks axis h x g j ws) ≡ weeks axis h x g j ws
 all-lit = graphs.all-lit
 
--- ==== A lit vector, and from its end a lit vector with both moves negated, short or long
+-- ==== There and back: the words of a lit vector whose end is in range, and from its end the words of the vector with both moves negated
 
-module _ (g : Given) (m : Machine) (dx dy : Units) (free : refusal g m ≡ 0) (is : VectorBy g m dx dy)
-    (free-back : refusal g (step g m .machine) ≡ 0) (is-back : VectorBy g (step g m .machine) (negated dx) (negated dy)) where
-  -- the position is back where it was
-  pub back-x : step g (step g m .machine) .machine .x ≡ m .x
-  back-x = backwards.back-x g m dx dy free is free-back is-back
+module _ (g : Given) (m : Machine) (dx dy : Units) (fits : Fits m) (x-in : InRange (moved (m .x) dx)) (y-in : InRange (moved (m .y) dy))
+    (there : VectorWords g m dx dy) (back : VectorWords g (step g m .machine) (negated dx) (negated dy)) where
+  -- neither is refused, and after both the machine is as before, but for its counter
+  pub both-complete : (refusal g m ≡ 0) × (refusal g (step g m .machine) ≡ 0)
+  both-complete = words.both-complete g m dx dy fits x-in y-in there back
 
-  pub back-y : step g (step g m .machine) .machine .y ≡ m .y
-  back-y = backwards.back-y g m dx dy free is free-back is-back
+  pub there-and-back : step g (step g m .machine) .machine ≡ withCounter m (step g (step g m .machine) .machine .counter)
+  there-and-back = words.there-and-back g m dx dy fits x-in y-in there back
 
-  -- the same pixels are stored in the reverse order, and on the same first image they leave the same image
+  -- the same pixels are stored, in the reverse order
   pub back-stores : step g (step g m .machine) .pixels ≡ reverse (step g m .pixels)
-  back-stores = backwards.back-stores g m dx dy free is free-back is-back
+  back-stores = words.back-stores g m dx dy fits x-in y-in there back
 
-  pub back-image : Fits m → (im : List ℕ)
-      → stores (shapeOf (step g m .machine)) (penOf (step g m .machine)) im (step g (step g m .machine) .pixels) ≡ stores (shapeOf m) (penOf m) im (step g m .pixels)
-  back-image = backwards.back-image g m dx dy free is free-back is-back
+  module _ (running : m .status ≡ 0) (im : List ℕ) where
+    -- on the same first image the two leave the same image
+    pub back-image : run g 1 (begun (step g m .machine) im) .image ≡ run g 1 (begun m im) .image
+    back-image = words.back-image g m dx dy fits x-in y-in there back running im
 
-  -- drawn over the first vector, the way back changes nothing
-  pub back-over : Fits m → (im : List ℕ) → length im ≡ imageBytes
-      → let there = stores (shapeOf m) (penOf m) im (step g m .pixels) in
-      stores (shapeOf (step g m .machine)) (penOf (step g m .machine)) there (step g (step g m .machine) .pixels) ≡ there
-  back-over = backwards.back-over g m dx dy free is free-back is-back
+    -- and the way back, drawn over the first vector, changes nothing
+    pub back-over : length im ≡ imageBytes → run g 2 (begun m im) .image ≡ run g 1 (begun m im) .image
+    back-over = words.back-over g m dx dy fits x-in y-in there back running im
 
--- for words of mode 1: after the two the machine is as before, but for its counter
-pub there-and-back : (g : Given) (s : State) (w w′ : ℕ) → Fits (s .machine) → s .machine .status ≡ 0 → s .machine .mode ≡ 1
-    → Lies (g .memory) (s .machine .counter) (w ∷ w′ ∷ []) → Off 15 w → On 14 w → Off 15 w′ → On 14 w′ → shortX w′ ≡ negated (shortX w) → shortY w′ ≡ negated (shortY w)
-    → InRange (moved (s .machine .x) (shortX w)) → InRange (moved (s .machine .y) (shortY w)) → run g 2 s .machine ≡ withCounter (s .machine) (next (next (s .machine .counter)))
-there-and-back = words.there-and-back
+-- the moves of a word are negated by the same word with its signs turned, where their sizes are not zero
+pub turned-short : (w w′ : ℕ) → bits 12 7 w′ ≡ bits 12 7 w → bits 5 0 w′ ≡ bits 5 0 w → Turned (bits 12 7 w) (bit 13 w) (bit 13 w′) → Turned (bits 5 0 w) (bit 6 w) (bit 6 w′)
+    → (shortX w′ ≡ negated (shortX w)) × (shortY w′ ≡ negated (shortY w))
+turned-short = words.turned-short
 
--- which is so of two words of the same sizes whose sign bits differ
-pub other-sign : (sign : Bool) (n : ℕ) → move (not sign) n ≡ negated (move sign n)
-other-sign = words.other-sign
-
--- ==== 27 by the kind of the word: its condition in run-27 is MovesOut
-
-module _ (g : Given) (m : Machine) where
-  pub order-never-27 : Fits m → On 15 (word g m) → MovesOut g m → ⊥
-  order-never-27 = moves.order-stays g m
-
-  module _ (off : Off 15 (word g m)) where
-    pub mode-1-27 : m .mode ≡ 1 → MovesOut g m ↔ ((numberIn (first g m) ≡ 0) × (Beyond (m .x) (shortX (word g m)) ⊎ Beyond (m .y) (shortY (word g m))))
-    mode-1-27 = moves.short-out g m off
-
-    pub mode-2-27 : m .mode ≡ 2
-        → MovesOut g m ↔ (((numberIn (first g m) ≡ 0) × ((numberIn (second g m) ≡ 0) × Off 15 (more g m))) × (Beyond (m .x) (long (word g m)) ⊎ Beyond (m .y) (long (more g m))))
-    mode-2-27 = moves.long-out g m off
-
-    pub mode-3-never-27 : m .mode ≡ 3 → MovesOut g m → ⊥
-    mode-3-never-27 = moves.absolute-stays g m off
-
-    pub mode-4-27 : Fits m → m .mode ≡ 4 → MovesOut g m ↔ ((numberIn (first g m) ≡ 0) × (pos 4095 <ℤ (m .y .0 +ℤ pos (m .increment))))
-    mode-4-27 = moves.graph-x-out g m off
-
-    pub mode-5-27 : Fits m → m .mode ≡ 5 → MovesOut g m ↔ ((numberIn (first g m) ≡ 0) × (pos 4095 <ℤ (m .x .0 +ℤ pos (m .increment))))
-    mode-5-27 = moves.graph-y-out g m off
-
-    pub mode-6-27 : m .mode ≡ 6 → MovesOut g m ↔ ((numberIn (first g m) ≡ 0) × (Beyond (m .x) (shortX (word g m)) ⊎ Beyond (m .y) (shortY (word g m))))
-    mode-6-27 = moves.relative-out g m off
-
--- ==== Words in no segment decide nothing in refused files either, where the two are of one length
-
-pub run-of-one-length : (f h : List ℕ) → SameWords f h → length f ≡ length h → (m : Machine) (im : List ℕ) (b : ℕ) → runCall (plain f) m im b ≡ runCall (plain h) m im b
-run-of-one-length = outside.alike-run
-
-pub line-of-one-length : (bytes other : List ℕ) → SameWords (wordsIn bytes) (wordsIn other) → length bytes ≡ length other → plotLine bytes ≡ plotLine other
-line-of-one-length = outside.alike-line
+pub turned-long : (w w′ : ℕ) → bits 9 0 w′ ≡ bits 9 0 w → Turned (bits 9 0 w) (bit 13 w) (bit 13 w′) → long w′ ≡ negated (long w)
+turned-long = words.turned-long

@@ -15,8 +15,8 @@ use Rattle.definition.specs.Units.{units, moved}
 use Rattle.definition.specs.Image.{Shape, inside, stores}
 use Rattle.definition.specs.File.{fetchRefusals}
 use Rattle.definition.specs.Words.{bit, coordinate, item, decode, firstRefusals, secondRefusals}
-use Rattle.definition.specs.Machine.{next, shapeOf, penOf}
-use Rattle.definition.specs.Step.{Given, wayRefusals, refusals, refusal, done}
+use Rattle.definition.specs.Machine.{next, withCounter, shapeOf, penOf}
+use Rattle.definition.specs.Step.{Given, wayRefusals, refusals, refusal, done, Step, step}
 use Rattle.definition.specs.Run.{State, after, run}
 use Rattle.definition.specs.declared.Units.{Units}
 use Rattle.definition.specs.declared.Pixel.{Pixel}
@@ -27,7 +27,7 @@ use Rattle.definition.specs.declared.Item.the-variants.{GraphX, GraphY}
 use Rattle.definition.specs.declared.Instruction.the-variants.{Draws}
 use Rattle.definition.proofs.StoreLaws.{stores-append, inside-append}
 use Rattle.demands.specs.Conditions.{InRange, Off}
-use Rattle.demands.specs.Graphs.{Axis, AlongX, AlongY, AllLit, modeOf, stepped, valued, pixelOn, weeks, ofLit, shown, went, Ready, plotted}
+use Rattle.demands.specs.Graphs.{Axis, AlongX, AlongY, AllLit, modeOf, stepped, valued, placed, pixelOn, weeks, ofLit, shown, went, Ready, plotted}
 use Rattle.definition.proofs.StepLaws.{on, step-done, run-turn}
 use Rattle.demands.proofs.Kept.{in-range}
 
@@ -50,11 +50,11 @@ pub coordinate-in : (w : ℕ) → InRange (coordinate w)
 coordinate-in w = record { low = omega whole; high = omega whole }
 
 -- one increment on
-abbrev grown : Axis → Machine → Units
+abbrev pub grown : Axis → Machine → Units
 grown axis m = moved (stepped axis m) (units (pos (m .increment)))
 
 -- what a word lights: its place, where it is lit
-abbrev mark : ℕ → Pixel → List Pixel
+abbrev pub mark : ℕ → Pixel → List Pixel
 mark w p = pick (bit 14 w) (p ∷ []) []
 
 -- and what of it is stored
@@ -75,14 +75,20 @@ module _ (g : Given) (s : State) (w : ℕ) (here : g .memory (s .machine .counte
   free AlongY four fits = rw (here, four, decoded AlongY w data-word, clear-15 w data-word, in-range .1 fits, in-range .1 (coordinate-in w))
 
   -- the point is plotted where the machine stands, and the step comes after it
-  one-word : (axis : Axis) → m .mode ≡ modeOf axis → InRange (grown axis m)
-      → on g s ≡ went axis s (next (m .counter)) (grown axis m) (coordinate w) 1 (mark w (pixelOn axis (shapeOf m) (stepped axis m) (coordinate w)))
+  abbrev plots-once : Axis → Step
+  plots-once axis = record { machine = placed axis (withCounter m (next (m .counter))) (grown axis m) (coordinate w); steps = 1; words = 1; pixels = shown m (mark w (pixelOn axis (shapeOf m) (stepped axis m) (coordinate w))) }
+
+  pub one-step : (axis : Axis) → m .mode ≡ modeOf axis → InRange (grown axis m) → step g m ≡ plots-once axis
   unfolding done
-  one-word AlongX five fits = ap (after s) (step-done g m (free AlongX five fits)) ∙ rw (here, five, decoded AlongX w data-word, mark-shown (shapeOf m) (bit 14 w) (m .write) (pixelOn AlongX (shapeOf m) (m .x) (coordinate w) ∷ []))
-  one-word AlongY four fits = ap (after s) (step-done g m (free AlongY four fits)) ∙ rw (here, four, decoded AlongY w data-word, mark-shown (shapeOf m) (bit 14 w) (m .write) (pixelOn AlongY (shapeOf m) (m .y) (coordinate w) ∷ []))
+  one-step AlongX five fits = step-done g m (free AlongX five fits) ∙ rw (here, five, decoded AlongX w data-word, mark-shown (shapeOf m) (bit 14 w) (m .write) (pixelOn AlongX (shapeOf m) (m .x) (coordinate w) ∷ []))
+  one-step AlongY four fits = step-done g m (free AlongY four fits) ∙ rw (here, four, decoded AlongY w data-word, mark-shown (shapeOf m) (bit 14 w) (m .write) (pixelOn AlongY (shapeOf m) (m .y) (coordinate w) ∷ []))
+
+  pub one-word : (axis : Axis) → m .mode ≡ modeOf axis → InRange (grown axis m)
+      → on g s ≡ went axis s (next (m .counter)) (grown axis m) (coordinate w) 1 (mark w (pixelOn axis (shapeOf m) (stepped axis m) (coordinate w)))
+  one-word axis mode fits = ap (after s) (one-step axis mode fits)
 
 -- ---- one word after the other
-shown-append : (m : Machine) (ps qs : List Pixel) → shown m (ps ++ qs) ≡ shown m ps ++ shown m qs
+pub shown-append : (m : Machine) (ps qs : List Pixel) → shown m (ps ++ qs) ≡ shown m ps ++ shown m qs
 shown-append m ps qs = go (m .write)
   where
     go : (on : Bool) → pick on (inside (shapeOf m) (ps ++ qs)) [] ≡ pick on (inside (shapeOf m) ps) [] ++ pick on (inside (shapeOf m) qs) []
@@ -98,7 +104,7 @@ went-twice AlongY s a a′ u u′ v v′ n n′ ps qs =
     let m = s .machine in
     simp (shown-append m ps qs, stores-append (shapeOf m) (penOf m) (s .image) (shown m ps) (shown m qs), length-append (shown m ps) (shown m qs), add-assoc)
 
-shown-none : (m : Machine) → shown m [] ≡ []
+pub shown-none : (m : Machine) → shown m [] ≡ []
 unfolding inside
 shown-none m = go (m .write)
   where
@@ -112,7 +118,7 @@ went-nowhere AlongX s u e = simp (shown-none (s .machine), e, add-zero)
 went-nowhere AlongY s u e = simp (shown-none (s .machine), e, add-zero)
 
 -- from one increment further on, the words have one number less
-shift : (axis : Axis) (h : Shape) (x : ℤ) (g k : ℕ) (ws : List ℕ) → weeks axis h (x +ℤ pos g) g k ws ≡ weeks axis h x g (suc k) ws
+pub shift : (axis : Axis) (h : Shape) (x : ℤ) (g k : ℕ) (ws : List ℕ) → weeks axis h (x +ℤ pos g) g k ws ≡ weeks axis h x g (suc k) ws
 shift axis h x g k [] = refl
 shift axis h x g k (w ∷ ws) =
     let e : (x +ℤ pos g) +ℤ pos (k * g) ≡ x +ℤ pos (suc k * g) = omega (whole, add x (pos g), add (x +ℤ pos g) (pos (k * g)), add x (pos (suc k * g))) in
@@ -121,15 +127,15 @@ shift axis h x g k (w ∷ ws) =
 further : (x : ℤ) (g n : ℕ) → (x +ℤ pos g) +ℤ pos (n * g) ≡ x +ℤ pos (suc n * g)
 further x g n = omega (whole, add x (pos g), add (x +ℤ pos g) (pos (n * g)), add x (pos (suc n * g)))
 
-from-here : (x : ℤ) (g : ℕ) → x +ℤ pos (0 * g) ≡ x
+pub from-here : (x : ℤ) (g : ℕ) → x +ℤ pos (0 * g) ≡ x
 from-here x g = omega (whole, add x (pos (0 * g)))
 
 -- the state after the first word, and the rest from there
-abbrev begins : Axis → State → ℕ → State
+abbrev pub begins : Axis → State → ℕ → State
 begins axis s w = went axis s (next (s .machine .counter)) (grown axis (s .machine)) (coordinate w) 1 (mark w (pixelOn axis (shapeOf (s .machine)) (stepped axis (s .machine)) (coordinate w)))
 
 -- a mark before those of the other words
-mark-first : (l : Bool) (p : Pixel) (ps : List Pixel) → pick l (p ∷ []) [] ++ ps ≡ pick l (p ∷ ps) ps
+pub mark-first : (l : Bool) (p : Pixel) (ps : List Pixel) → pick l (p ∷ []) [] ++ ps ≡ pick l (p ∷ ps) ps
 mark-first true p ps = refl
 mark-first false p ps = refl
 
@@ -154,11 +160,11 @@ the-rest AlongY s w ws =
 grown-in : (x : ℤ) (g n : ℕ) → negsuc 4095 ≤ℤ x → (x +ℤ pos (suc n * g)) ≤ℤ pos 4095 → InRange (units (x +ℤ pos g))
 grown-in x g n lo hi = record { low = omega (whole, add x (pos g)); high = omega (whole, add x (pos g), add x (pos (suc n * g))) }
 
-first-fits : (axis : Axis) (g : Given) (s : State) (w : ℕ) (ws : List ℕ) → Ready axis g s (w ∷ ws) → InRange (grown axis (s .machine))
+pub first-fits : (axis : Axis) (g : Given) (s : State) (w : ℕ) (ws : List ℕ) → Ready axis g s (w ∷ ws) → InRange (grown axis (s .machine))
 unfolding moved
 first-fits axis g s w ws r = grown-in (stepped axis (s .machine) .0) (s .machine .increment) (length ws) (r .low) (r .room)
 
-still-ready : (axis : Axis) (g : Given) (s : State) (w : ℕ) (ws : List ℕ) → Ready axis g s (w ∷ ws) → Ready axis g (begins axis s w) ws
+pub still-ready : (axis : Axis) (g : Given) (s : State) (w : ℕ) (ws : List ℕ) → Ready axis g s (w ∷ ws) → Ready axis g (begins axis s w) ws
 unfolding moved
 still-ready AlongX g s w ws r =
     let x = s .machine .x .0 in

@@ -1,24 +1,24 @@
--- The conditions that the theorems ask for can be met: a file that is accepted, a run whose doors are all open, words that are ready to be plotted.
+-- The conditions that the theorems ask for can be met: a file that is accepted, a run whose doors are all open, words that are ready to be plotted, vectors
+-- there and back.
 use Prim.Native.Nat.{ℕ}
 use mathlib.Core.List.{List, [], _∷_}
-use mathlib.Core.Path.{_≡_, refl}
-use mathlib.Core.Logic.{inl}
+use mathlib.Core.Path.{refl}
+use mathlib.Core.Logic.{inl, inr}
 use lib.IntN.{pos, negsuc}
 use Rattle.whole.specs.Parts.{whole}
-use Rattle.definition.specs.Units.{units}
+use Rattle.definition.specs.Units.{units, moved}
 use Rattle.definition.specs.Image.{blank}
-use Rattle.definition.specs.Words.{shortX, shortY}
 use Rattle.definition.specs.Machine.{fresh, withPosition, withMode, withIncrement}
-use Rattle.definition.specs.Step.{Given, refusal, step}
+use Rattle.definition.specs.Step.{Given, step}
 use Rattle.definition.specs.Run.{State, begun}
 use Rattle.definition.specs.Calls.{plain}
 use Rattle.definition.specs.declared.Machine.{Machine}
 use Rattle.definition.proofs.Opened.{rules}
-use Rattle.definition.proofs.Worked.{holding, inMode}
+use Rattle.definition.proofs.Worked.{file, holding, inMode}
 use Rattle.definition.proofs.Runs.{typed}
-use Rattle.demands.specs.Conditions.{Accepted, Open}
+use Rattle.demands.specs.Conditions.{Accepted, InRange, Open}
 use Rattle.demands.specs.Graphs.{Axis, AlongX, AlongY, modeOf, Ready}
-use Rattle.demands.specs.Strokes.{VectorBy, negated}
+use Rattle.demands.specs.Strokes.{LitVector, VectorWords, negated}
 use Rattle.demands.proofs.FileAnswers.{check-0}
 use Rattle.demands.proofs.CallAnswers.{door-0}
 
@@ -46,22 +46,43 @@ pub ready-x : Ready AlongY (holding two) (graphing AlongY) two
 unfolding rules
 ready-x = record { running = refl; mode = refl; words = (refl, (refl, tt)); data-words = (refl, (refl, tt)); low = omega whole; room = omega whole }
 
--- two words of mode 1 with both moves negated
-pub turned-words : (shortX 0o061101 ≡ negated (shortX 0o041001)) × (shortY 0o061101 ≡ negated (shortY 0o041001))
+-- and a call that draws them: its doors are open
+pub graph-open : (axis : Axis) → Open (plain (file two)) (graphing axis .machine) blank 2
 unfolding rules
-turned-words = (refl, refl)
+graph-open AlongX = door-0 (plain (file two)) (graphing AlongX .machine) blank 2 .0 refl
+graph-open AlongY = door-0 (plain (file two)) (graphing AlongY .machine) blank 2 .0 refl
 
--- and a machine before them, whose two instructions are lit vectors and not refused
-abbrev at-start : Machine
-at-start = inMode 1 (pos 10) (pos 10)
+-- a short vector by (4, 1), and the word with both signs turned; a long one by (6, -4), and the two words with both signs turned
+abbrev shorts : Given
+shorts = holding (0o041001 ∷ 0o061101 ∷ [])
 
-abbrev turning : Given
-turning = holding (0o041001 ∷ 0o061101 ∷ [])
+abbrev longs : Given
+longs = holding (0o040006 ∷ 0o020004 ∷ 0o060006 ∷ 0o000004 ∷ [])
 
-pub both-free : (refusal turning at-start ≡ 0) × (refusal turning (step turning at-start .machine) ≡ 0)
+abbrev before : ℕ → Machine
+before mode = inMode mode (pos 10) (pos 10)
+
+pub short-there : VectorWords shorts (before 1) (units (pos 4)) (units (pos 1))
 unfolding rules
-both-free = (refl, refl)
+short-there = inl (record { mode = refl; fetched = refl; data-word = refl; lit = refl; across = refl; upward = refl })
 
-pub both-vectors : VectorBy turning at-start (units (pos 4)) (units (pos 1)) × VectorBy turning (step turning at-start .machine) (units (negsuc 3)) (units (negsuc 0))
+pub short-back : VectorWords shorts (step shorts (before 1) .machine) (negated (units (pos 4))) (negated (units (pos 1)))
 unfolding rules
-both-vectors = (inl refl, inl refl)
+short-back = inl (record { mode = refl; fetched = refl; data-word = refl; lit = refl; across = refl; upward = refl })
+
+pub long-there : VectorWords longs (before 2) (units (pos 6)) (units (negsuc 3))
+unfolding rules
+long-there = inr (record { mode = refl; fetched = refl; data-word = refl; lit = refl; fetched-too = refl; data-too = refl; across = refl; upward = refl })
+
+pub long-back : VectorWords longs (step longs (before 2) .machine) (negated (units (pos 6))) (negated (units (negsuc 3)))
+unfolding rules
+long-back = inr (record { mode = refl; fetched = refl; data-word = refl; lit = refl; fetched-too = refl; data-too = refl; across = refl; upward = refl })
+
+-- their ends are in range, and the first of each is a lit vector with write on
+pub ends-in : (InRange (moved (before 1 .x) (units (pos 4))) × InRange (moved (before 1 .y) (units (pos 1)))) × (InRange (moved (before 2 .x) (units (pos 6))) × InRange (moved (before 2 .y) (units (negsuc 3))))
+unfolding moved
+ends-in = ((record { low = omega whole; high = omega whole }, record { low = omega whole; high = omega whole }), (record { low = omega whole; high = omega whole }, record { low = omega whole; high = omega whole }))
+
+pub both-lit : LitVector shorts (before 1) × LitVector longs (before 2)
+unfolding rules
+both-lit = (record { completes = refl; writes = refl; data-word = refl; is-lit = refl; mode = inl refl }, record { completes = refl; writes = refl; data-word = refl; is-lit = refl; mode = inr refl })

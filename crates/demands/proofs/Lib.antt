@@ -19,6 +19,7 @@ pub mod Places
 pub mod VectorOrigins
 pub mod Standing
 pub mod OnePen
+pub mod WeekStrokes
 pub mod Weeks
 pub mod MovesOut
 pub mod Backwards

@@ -66,7 +66,7 @@ module _ (mode w : ℕ) where
     unfolding decode item
     short e = rw (clear-15 w off, e)
 
-    longer : mode ≡ 2 → decode mode w ≡ Draws (bit 14 w) (LongVector (long w))
+    pub longer : mode ≡ 2 → decode mode w ≡ Draws (bit 14 w) (LongVector (long w))
     unfolding decode item
     longer e = rw (clear-15 w off, e)
 
@@ -115,7 +115,7 @@ module _ (g : Given) (m : Machine) where
       },
     )
 
-    two-words : Pair (m .mode) w → Continues g m ↔ ((numberIn (first g m) ≡ 0) × ((numberIn (second g m) ≡ 0) × Off 15 v))
+    pub two-words : Pair (m .mode) w → Continues g m ↔ ((numberIn (first g m) ≡ 0) × ((numberIn (second g m) ≡ 0) × Off 15 v))
     two-words pair = (
       λ c. (c .begins .fetched, (c .fetched (inr pair), c .clear pair)),
       λ q. record {

@@ -3,7 +3,7 @@ use Prim.Native.Nat.{ℕ, _/_, _^_}
 use mathlib.Core.Bool.{Bool, true, false}
 use mathlib.Core.List.{List, [], _∷_}
 use mathlib.Core.Path.{_≡_, refl, sym, ap, _∙_}
-use mathlib.Core.Logic.{_⊎_, inl, inr, ⊎-elim}
+use mathlib.Core.Logic.{inl, inr, ⊎-elim}
 use native.Mathlib.Nat.{div-add-mod', div-div-eq-div-mul}
 use lib.ListN.{length, getD, set}
 use lib.Seq.{set-getD}

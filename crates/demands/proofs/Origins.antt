@@ -11,7 +11,7 @@ use borrow.Author.Tests.{eq-eqb, ne-eqb}
 use Rattle.definition.specs.Choice.{pick}
 use Rattle.definition.specs.Image.{inside}
 use Rattle.definition.specs.Machine.{shapeOf}
-use Rattle.definition.specs.Step.{itemPixels, storedOf, done, Given, instruction, refusal, Step, step}
+use Rattle.definition.specs.Step.{itemPixels, storedOf, Given, instruction, refusal, Step, step}
 use Rattle.definition.specs.Run.{State, run}
 use Rattle.definition.specs.declared.Pixel.{Pixel}
 use Rattle.definition.specs.declared.Machine.{Machine}
@@ -56,7 +56,7 @@ module _ (g : Given) where
   unfolding strokes completed
   strokes-turn b s r z = rw (eq-eqb _ _ r, eq-eqb _ _ z, done-next g s z)
 
-  strokes-zero : (s : State) → strokes g 0 s ≡ []
+  pub strokes-zero : (s : State) → strokes g 0 s ≡ []
   unfolding strokes completed
   strokes-zero s = refl
 

@@ -5,6 +5,7 @@ use mathlib.Core.List.{List, [], _∷_, _++_}
 use mathlib.Core.Path.{_≡_, refl, sym, ap, _∙_}
 use native.Mathlib.Omega.{arith}
 use native.Mathlib.Nat.{zero-add}
+use native.Mathlib.Decide.{ℕ-discrete}
 use lib.Dec.{eqb}
 use lib.ListN.{length, length-append}
 use lib.IntN.{natAbs}
@@ -16,7 +17,7 @@ use Rattle.definition.specs.Words.{wordsOf}
 use Rattle.definition.specs.Machine.{shapeOf, penOf}
 use Rattle.definition.specs.Step.{storedOf, done, Given, second, instruction, refusal, step}
 use Rattle.definition.specs.Run.{State, begun, run}
-use Rattle.definition.specs.Calls.{Lent, given, answered, runCall}
+use Rattle.definition.specs.Calls.{Lent, given, runDoor, answered, runCall}
 use Rattle.definition.specs.declared.Pixel.{Pixel}
 use Rattle.definition.specs.declared.Machine.{Machine}
 use Rattle.definition.specs.declared.Ran.{Ran}
@@ -25,7 +26,7 @@ use Rattle.demands.specs.Conditions.{Open}
 use Rattle.demands.specs.Ledger.{Entry, entry, completed}
 use Rattle.demands.specs.Strokes.{Stroke, strokesOf, strokesBy, strokes, drawn, stroked, ledgerWords}
 use Rattle.demands.proofs.Runs.{refused-only}
-use Rattle.demands.proofs.CallAnswers.{door-0, call-open}
+use Rattle.demands.proofs.CallAnswers.{door-0, call-shut, call-open}
 
 -- ---- a run turn by turn: what holds of no turn, of a stopped machine and of a refusal, and of one more completed instruction, holds of every run with its ledger
 module _ (g : Given) (P : State → List Entry → State → Type 0)
@@ -143,5 +144,10 @@ module _ (l : Lent) (m : Machine) (im : List ℕ) (b : ℕ) (o : Open l m im b) 
   pub call-words : runCall l m im b .result .counts .words ≡ ledgerWords (completed (given l) b s)
   call-words = ap (λ (r : Left Ran). r .result .counts .words) ran ∙ run-words (given l) b s ∙ zero-add _
 
-  pub call-steps : runCall l m im b .result .counts .steps ≤ b
-  call-steps = let e = ap (λ (r : Left Ran). r .result .counts .steps) ran in let k = run-steps (given l) b s in omega arith
+-- and of every call: it makes at most as many steps as its budget
+pub call-steps : (l : Lent) (m : Machine) (im : List ℕ) (b : ℕ) → runCall l m im b .result .counts .steps ≤ b
+call-steps l m im b = go (ℕ-discrete (runDoor l m im b) 0)
+  where
+    go : Dec (runDoor l m im b ≡ 0) → runCall l m im b .result .counts .steps ≤ b
+    go (yes e) = let c = ap (λ (r : Left Ran). r .result .counts .steps) (call-open l m im b e) in let k = run-steps (given l) b (begun m im) in omega arith
+    go (no h) = let c = ap (λ (r : Left Ran). r .result .counts .steps) (call-shut l m im b h) in omega arith

@@ -1,28 +1,35 @@
 -- A stroke of modes 1 and 2 is a pixel of the vector between the positions before and after its instruction, and lies near the exact line.
-use Prim.Native.Nat.{ℕ, suc, _≤_, _<_}
+use Prim.Native.Nat.{ℕ, zero, suc, _≤_, _<_}
 use mathlib.Core.List.{List, [], _∷_}
-use mathlib.Core.Path.{_≡_, sym, ap, subst, _∙_}
-use mathlib.Core.Logic.{_⊎_, ⊎-elim}
+use mathlib.Core.Path.{_≡_, refl, sym, ap, subst, _∙_}
+use mathlib.Core.Logic.{_⊎_, inl, inr, ⊎-elim}
 use native.Mathlib.Omega.{arith}
 use native.Mathlib.Numerals.{add-one}
 use lib.ListN.{length, getD}
 use Rattle.definition.specs.Image.{square, pixelAt}
 use Rattle.definition.specs.Vector.{longer, vector}
+use Rattle.definition.specs.Machine.{shapeOf}
 use Rattle.definition.specs.Step.{Given, step}
 use Rattle.definition.specs.Run.{State, run}
 use Rattle.definition.specs.declared.Pixel.{Pixel}
 use Rattle.definition.specs.declared.Machine.{Machine}
 use Rattle.definition.proofs.StepLaws.{on, run-turn}
-use Rattle.demands.specs.Strokes.{In, Stroke, strokes, Lights, lightsBetween, OnVector}
+use Rattle.demands.specs.Conditions.{InField}
+use Rattle.demands.specs.Strokes.{In, Stroke, strokes, Lights, lightsBetween, Plots, vectorBetween, longerBetween, OnVector, LitVector}
 use Rattle.demands.proofs.Runs.{run-add}
-use Rattle.demands.proofs.Vectors.{vector-point, vector-length, vector-near, point-near}
+use Rattle.demands.proofs.Vectors.{vector-point, vector-length, vector-first, vector-last, vector-near, point-near}
 use Rattle.demands.proofs.Origins.{stroke-origin}
-use Rattle.demands.proofs.Places.{in-words}
+use Rattle.demands.proofs.Places.{in-words, stroke-in-words}
 
 -- ---- the place of a member
 pub in-at : {A : Type 0} (a d : A) (xs : List A) → In a xs → (i : ℕ) × ((i < length xs) × (getD xs i d ≡ a))
 in-at a d [] h = absurd h
 in-at a d (x ∷ xs) h = ⊎-elim (λ e. (0, (omega arith, sym e))) (λ k. let r = in-at a d xs k in (suc (r .0), (let l = r .1 .0 in omega arith, r .1 .1))) h
+
+pub at-in : {A : Type 0} (d : A) (xs : List A) (i : ℕ) → i < length xs → In (getD xs i d) xs
+at-in d [] i l = absurd (omega arith)
+at-in d (x ∷ xs) zero l = inl refl
+at-in d (x ∷ xs) (suc i) l = inr (at-in d xs i (omega arith))
 
 -- ---- a pixel of a vector, with its bound
 on-vector : (m m′ : Machine) (p : Pixel) → In p (vector (pixelAt square (m .x) (m .y)) (pixelAt square (m′ .x) (m′ .y))) → OnVector m m′ p
@@ -66,3 +73,37 @@ module _ (g : Given) where
       let m = run g k s .machine in
       let same = d .1 .1 .1 .0 in
       (k, (d .1 .0, (same, rw (one-further k s (d .1 .1 .0)) (lit-vector m (t .pixel) (rw same at mode) (d .1 .1 .1 .1)))))
+
+  -- ---- and the other way round
+  -- every pixel of a lit vector that is in the field, with write on, is a stroke of its run
+  module _ (b : ℕ) (s : State) (k : ℕ) (below : k < b) (running : run g k s .machine .status ≡ 0) (v : LitVector g (run g k s .machine)) where
+    abbrev m : Machine
+    m = run g k s .machine
+
+    abbrev m′ : Machine
+    m′ = run g (suc k) s .machine
+
+    abbrev stroke : Pixel → Stroke
+    stroke p = record { machine = m; pixel = p }
+
+    lit-pixel : (p : Pixel) → In p (vectorBetween m m′) → InField (shapeOf m) p → In (stroke p) (strokes g b s)
+    lit-pixel p h f = stroke-in-words g b s (stroke p) .1 (k, (below, (running, (refl, plots))))
+      where
+        at-mode : {n : ℕ} → m .mode ≡ n → In p (lightsBetween n m (step g m .machine)) → In p (lightsBetween (m .mode) m (step g m .machine))
+        at-mode e i = subst (λ (n : ℕ). In p (lightsBetween n m (step g m .machine))) (sym e) i
+
+        there : In p (vectorBetween m (step g m .machine))
+        there = subst (λ (t : State). In p (vectorBetween m (t .machine))) (one-further k s running) h
+
+        plots : Plots g m p
+        plots = record { free = v .completes; on = v .writes; data-word = v .data-word; lit = v .is-lit; field = f; pixel = ⊎-elim (λ e. at-mode e there) (λ e. at-mode e there) (v .mode) }
+
+    pub vector-drawn : (i : ℕ) (d : Pixel) → i ≤ longerBetween m m′ → InField (shapeOf m) (getD (vectorBetween m m′) i d) → In (stroke (getD (vectorBetween m m′) i d)) (strokes g b s)
+    vector-drawn i d l f = lit-pixel _ (at-in d (vectorBetween m m′) i (omega (arith, vector-length (pixelAt square (m .x) (m .y)) (pixelAt square (m′ .x) (m′ .y))))) f
+
+    -- its two ends among them
+    pub start-drawn : InField (shapeOf m) (pixelAt (shapeOf m) (m .x) (m .y)) → In (stroke (pixelAt (shapeOf m) (m .x) (m .y))) (strokes g b s)
+    start-drawn f = let e = vector-first (pixelAt square (m .x) (m .y)) (pixelAt square (m′ .x) (m′ .y)) (pixelAt square (m .x) (m .y)) in rw e at (vector-drawn 0 (pixelAt square (m .x) (m .y)) (omega arith) (rw e f))
+
+    pub end-drawn : InField (shapeOf m) (pixelAt (shapeOf m) (m′ .x) (m′ .y)) → In (stroke (pixelAt (shapeOf m) (m′ .x) (m′ .y))) (strokes g b s)
+    end-drawn f = let e = vector-last (pixelAt square (m .x) (m .y)) (pixelAt square (m′ .x) (m′ .y)) (pixelAt square (m .x) (m .y)) in rw e at (vector-drawn (longerBetween m m′) (pixelAt square (m .x) (m .y)) (omega arith) (rw e f))

@@ -11,19 +11,21 @@ use lib.IntN.{ℤ, pos, _+ℤ_}
 use borrow.Author.Tests.{eqb-true, eqb-false}
 use Rattle.definition.specs.Choice.{pick}
 use Rattle.definition.specs.Units.{units}
-use Rattle.definition.specs.Image.{Shape, square, imageBytes, inside, stores}
+use Rattle.definition.specs.Image.{Shape, square, imageBytes, inside, stores, Left}
 use Rattle.definition.specs.Words.{bit, coordinate}
 use Rattle.definition.specs.Machine.{penOf}
 use Rattle.definition.specs.Step.{Given}
-use Rattle.definition.specs.Run.{State, run}
-use Rattle.definition.specs.Calls.{readCall}
+use Rattle.definition.specs.Run.{State, begun, run}
+use Rattle.definition.specs.Calls.{Lent, given, answered, runCall, readCall}
 use Rattle.definition.specs.declared.Pixel.{Pixel}
 use Rattle.definition.specs.declared.Machine.{Machine}
+use Rattle.definition.specs.declared.Ran.{Ran}
 use Rattle.definition.specs.declared.Read.{Read}
-use Rattle.demands.specs.Conditions.{Fits, InField, On}
-use Rattle.demands.specs.Graphs.{Axis, stepped, pixelOn, weeks, ofLit, weekAt, shown, Ready}
+use Rattle.demands.specs.Conditions.{Fits, Open, InField, On}
+use Rattle.demands.specs.Graphs.{Axis, stepped, pixelOn, weeks, ofLit, weekAt, shown, Ready, plotted}
 use Rattle.demands.specs.Strokes.{In, seen}
 use Rattle.demands.proofs.Kept.{run-length}
+use Rattle.demands.proofs.CallAnswers.{door-0, call-open}
 use Rattle.demands.proofs.OnePen.{lit-stands, unlit-stands}
 use Rattle.demands.proofs.OtherCalls.{read-0, reads-alike}
 use Rattle.demands.proofs.Graphs.{plot-then-step}
@@ -97,3 +99,22 @@ module _ (axis : Axis) (g : Given) (s : State) (ws : List ℕ) (r : Ready axis g
       go : (on : Bool) → length (s .image) ≡ imageBytes → InField square p → seen square (stores square (penOf m) (s .image) (pick on (inside square lit) [])) p ≡ seen square (s .image) p
       go true l f = unlit-stands m fits (s .image) l p f lit none
       go false l f = refl
+
+-- ---- a call with a budget of as many steps as there are words
+module _ (axis : Axis) (l : Lent) (m : Machine) (im ws : List ℕ) (o : Open l m im (length ws)) (r : Ready axis (given l) (begun m im) ws) where
+  ran : runCall l m im (length ws) ≡ answered (run (given l) (length ws) (begun m im))
+  ran = call-open l m im (length ws) (door-0 l m im (length ws) .1 o)
+
+  reads-so : (p : Pixel) → readCall square (runCall l m im (length ws) .image) p ≡ readCall square (run (given l) (length ws) (begun m im) .image) p
+  reads-so p = ap (λ (t : Left Ran). readCall square (t .image) p) ran
+
+  pub call-weeks : runCall l m im (length ws) ≡ answered (plotted axis (begun m im) ws)
+  call-weeks = ran ∙ ap answered (plot-then-step axis (given l) (begun m im) ws r)
+
+  pub call-week-reads : (k : ℕ) → m .write ≡ true → k < length ws → On 14 (getD ws k 0) → InField square (weekAt axis m ws k)
+      → readCall square (runCall l m im (length ws) .image) (weekAt axis m ws k) ≡ record { answer = 0; digit = m .value }
+  call-week-reads k on here lit f = reads-so (weekAt axis m ws k) ∙ week-reads axis (given l) (begun m im) ws r (o .machine) k (o .image) on here lit f
+
+  pub call-no-week-reads : (p : Pixel) → ((k : ℕ) → k < length ws → On 14 (getD ws k 0) → p ≡ weekAt axis m ws k → ⊥)
+      → readCall square (runCall l m im (length ws) .image) p ≡ readCall square im p
+  call-no-week-reads p h = reads-so p ∙ no-week-reads axis (given l) (begun m im) ws r (o .machine) p h

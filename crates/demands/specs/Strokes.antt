@@ -1,7 +1,7 @@
 -- A run's strokes: every store that it makes, in order, read off the instructions that it completed; where a stroke comes from, and what strokes leave.
 use Prim.Native.Nat.{ℕ, _+_, _*_, _≤_, _<_}
-use mathlib.Core.Bool.{Bool, true, _&&_, _||_}
-use mathlib.Core.List.{List, [], _∷_, _++_}
+use mathlib.Core.Bool.{Bool, true, not, _&&_, _||_}
+use mathlib.Core.List.{List, [], _∷_, _++_, map}
 use mathlib.Core.Path.{_≡_}
 use mathlib.Core.Logic.{_⊎_}
 use lib.Dec.{eqb}
@@ -11,10 +11,11 @@ use lib.Signed.{leZ}
 use Rattle.definition.specs.Choice.{pick}
 use Rattle.definition.specs.Units.{units}
 use Rattle.definition.specs.Image.{Shape, pixelAt, digitAt, store}
-use Rattle.definition.specs.Words.{long, wordsOf}
+use Rattle.definition.specs.File.{numberIn}
+use Rattle.definition.specs.Words.{shortX, shortY, long, wordsOf}
 use Rattle.definition.specs.Vector.{longer, vector}
 use Rattle.definition.specs.Machine.{shapeOf, penOf}
-use Rattle.definition.specs.Step.{itemPixels, storedOf, done, Given, instruction, refusal, step}
+use Rattle.definition.specs.Step.{itemPixels, storedOf, done, Given, first, second, instruction, refusal, step}
 use Rattle.definition.specs.Run.{State}
 use Rattle.definition.specs.declared.Units.{Units}
 use Rattle.definition.specs.declared.Pixel.{Pixel}
@@ -49,6 +50,10 @@ strokesBy m (e ∷ es) = strokesOf m (storedOf m (e .what) (e .second)) ++ strok
 -- of a run of budget b
 unfoldable pub strokes : Given → ℕ → State → List Stroke
 strokes g b s = strokesBy (s .machine) (completed g b s)
+
+-- their pixels, in their order
+abbrev pub strokePixels : List Stroke → List Pixel
+strokePixels ts = map (λ (t : Stroke). t .pixel) ts
 
 -- an image with strokes stored in it, one after the other
 abbrev pub stroked : List ℕ → Stroke → List ℕ
@@ -114,12 +119,46 @@ pub record OnVector (m m′ : Machine) (p : Pixel) : Type 0 where
   pub near : 0 < longerBetween m m′ → Near (longerBetween m m′) i (p .x .0) (m .x) (m′ .x) × Near (longerBetween m m′) i (p .y .0) (m .y) (m′ .y)
   pub one : longerBetween m m′ ≡ 0 → AtEnds (p .x .0) (m .x) (m′ .x) × AtEnds (p .y .0) (m .y) (m′ .y)
 
--- a lit vector by (dx, dy) stands at the machine's counter, short or long
+-- a completed vector, lit and with write on, stands at the machine's counter
+pub record LitVector (g : Given) (m : Machine) : Type 0 where
+  pub completes : refusal g m ≡ 0
+  pub writes : m .write ≡ true
+  pub data-word : Off 15 (word g m)
+  pub is-lit : On 14 (word g m)
+  pub mode : (m .mode ≡ 1) ⊎ (m .mode ≡ 2)
+
+-- a lit vector by (dx, dy) is the instruction at the machine's counter, short or long
 abbrev pub VectorBy : Given → Machine → Units → Units → Type 0
 VectorBy g m dx dy = (instruction g m ≡ Draws true (ShortVector dx dy)) ⊎ ((instruction g m ≡ Draws true (LongVector dx)) × (long (more g m) ≡ dy))
 
+-- the same in words: one word of mode 1, or two of mode 2
+pub record ShortWord (g : Given) (m : Machine) (dx dy : Units) : Type 0 where
+  pub mode : m .mode ≡ 1
+  pub fetched : numberIn (first g m) ≡ 0
+  pub data-word : Off 15 (word g m)
+  pub lit : On 14 (word g m)
+  pub across : shortX (word g m) ≡ dx
+  pub upward : shortY (word g m) ≡ dy
+
+pub record LongWords (g : Given) (m : Machine) (dx dy : Units) : Type 0 where
+  pub mode : m .mode ≡ 2
+  pub fetched : numberIn (first g m) ≡ 0
+  pub data-word : Off 15 (word g m)
+  pub lit : On 14 (word g m)
+  pub fetched-too : numberIn (second g m) ≡ 0
+  pub data-too : Off 15 (more g m)
+  pub across : long (word g m) ≡ dx
+  pub upward : long (more g m) ≡ dy
+
+abbrev pub VectorWords : Given → Machine → Units → Units → Type 0
+VectorWords g m dx dy = ShortWord g m dx dy ⊎ LongWords g m dx dy
+
 abbrev pub negated : Units → Units
 negated d = units (negℤ (d .0))
+
+-- a sign turned, of a size that is not zero; with size zero the sign is free
+abbrev pub Turned : ℕ → Bool → Bool → Type 0
+Turned size sign sign′ = (size ≡ 0) ⊎ (sign′ ≡ not sign)
 
 -- ---- what strokes leave
 -- the digit that stands at a pixel of the field
