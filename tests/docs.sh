@@ -4,7 +4,7 @@
 set -eu
 cd "$(dirname "$0")/.."
 doc=docs/DEFINITION.md
-theorems=crates/demands/proofs/Demands.antt
+theorems='crates/demands/proofs/Demands.antt crates/demands/proofs/Drawing.antt'
 work=$(mktemp -d)
 trap 'rm -rf "$work"' EXIT
 
@@ -61,10 +61,18 @@ while read -r function; do
 done <"$work/public"
 
 # theorems: each is named
-sed -n 's/^ *pub \([a-z0-9-]*\) :.*/\1/p' "$theorems" >"$work/theorems"
+# shellcheck disable=SC2086 # two files
+sed -n 's/^ *pub \([a-z0-9-]*\) :.*/\1/p' $theorems >"$work/theorems"
 while read -r theorem; do
     grep -qx -e "$theorem" "$work/named" || { echo "$doc does not name the theorem $theorem"; failed=1; }
 done <"$work/theorems"
+
+# and each name with a hyphen is a theorem, of these or of the host's
+sed -n 's/^ *pub \([a-z0-9-]*\) :.*/\1/p' crates/host/proofs/Host.antt >>"$work/theorems"
+grep -E '^[a-z]+(-[a-z0-9]+)+$' "$work/named" >"$work/hyphened"
+while read -r theorem; do
+    grep -qx -e "$theorem" "$work/theorems" || { echo "$doc names the theorem $theorem, which is not there"; failed=1; }
+done <"$work/hyphened"
 
 # links of README
 sed -n 's/.*](\([^)#]*\)).*/\1/p' README.md | while read -r path; do
