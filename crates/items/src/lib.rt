@@ -18,7 +18,7 @@ ghost use Rattle.outcome.specs.Outcome.{stepped};
 ghost use Rattle.items.specs.Goes.{vectorTo, lights, goes};
 ghost use Rattle.items.specs.Ends.{Ends};
 
-// A lit item is stored only while write is on.
+// Whether the item leaves anything in the image: with write off it lights nothing.
 fn keeps(lit: bool, write: bool) -> bool
     ensures { λ r. ⌜ r ≡ lit && write ⌝ }
 {
@@ -114,7 +114,7 @@ fn grown(u: Units, increment: u8) -> Moved
     units::moved_to(u, Units(increment as i32))
 }
 
-// The point is plotted at the Y from before the step; then Y grows by the increment.
+// Plots at the Y that it finds, and only then raises Y by the increment.
 pub fn graph_x(m: Machine, image: &mut [u8], lit: bool, x: Units) -> Stepped
     requires { ⌜ (length (now image) ≡ imageBytes) × (ranged m ≡ true) × (inRange x ≡ true) ⌝ }
     ensures { λ r. ⌜ left r (now (image .exit)) ≡ stepped m (now (image .entry)) (goes m lit (way (Set x) (Move (units (pos (m .increment))))) (pointAt m x (m .y)) false) ⌝ }
@@ -126,7 +126,7 @@ pub fn graph_x(m: Machine, image: &mut [u8], lit: bool, x: Units) -> Stepped
     outcome::placed(m, false, x, y, stores)
 }
 
-// The point is plotted at the X from before the step; then X grows by the increment.
+// Plots at the X that it finds, and only then raises X by the increment.
 pub fn graph_y(m: Machine, image: &mut [u8], lit: bool, y: Units) -> Stepped
     requires { ⌜ (length (now image) ≡ imageBytes) × (ranged m ≡ true) × (inRange y ≡ true) ⌝ }
     ensures { λ r. ⌜ left r (now (image .exit)) ≡ stepped m (now (image .entry)) (goes m lit (way (Move (units (pos (m .increment)))) (Set y)) (pointAt m (m .x) y) false) ⌝ }
