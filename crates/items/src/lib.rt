@@ -18,7 +18,7 @@ ghost use Rattle.outcome.specs.Outcome.{stepped};
 ghost use Rattle.items.specs.Goes.{vectorTo, lights, goes};
 ghost use Rattle.items.specs.Ends.{Ends};
 
-// Whether the item leaves anything in the image: with write off it lights nothing.
+// Whether an item goes into the image at all: it must be lit, and write on.
 fn keeps(lit: bool, write: bool) -> bool
     ensures { λ r. ⌜ r ≡ lit && write ⌝ }
 {
