@@ -155,7 +155,7 @@ is 0 '' sh -c 'cd "$0" && ./link "a file.df" -out.pgm' "$work"
 shows "$work/-out.pgm" weeks
 is 0 'still running after 32,768 steps; the picture is what they drew.' ./picture examples/bootstrap.df "$work/out/out.pgm"
 shows "$work/out/out.pgm" bootstrap
-is 1 'refused, 27: X or Y would leave its range; the picture is what was drawn before.' ./picture examples/refused-27-range.df "$work/out/out.pgm"
+is 1 'refused, 27: X or Y would go below -4,096 or above 4,095; the picture is what was drawn before.' ./picture examples/refused-27-range.df "$work/out/out.pgm"
 shows "$work/out/out.pgm" refused-27-range
 is 1 'refused, 13: the tag, which is the first word, is not 1; nothing was drawn.' ./picture examples/refused-13-tag.df
 shows "$work/said" refused-13-tag

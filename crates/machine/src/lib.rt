@@ -116,7 +116,7 @@ fn draws(file: &[u16], m: Machine, image: &mut [u8], lit: bool, item: Item) -> S
     }
 }
 
-// In this order: first fetch, 24 or 25, second fetch, 26, 27.
+// What refuses it, in order: 21 to 23 for the first word, 24 or 25, 22 or 23 for the second, 26, 27.
 pub fn step(file: &[u16], m: Machine, image: &mut [u8]) -> Stepped
     requires { ⌜ (length (now image) ≡ imageBytes) × (ranged m ≡ true) ⌝ }
     ensures { λ r. ⌜ left r (now (image .exit)) ≡ stepped m (now (image .entry)) (step (given (plain (now (file .entry)))) m) ⌝ }

@@ -30,14 +30,14 @@ fn explain(answer: u8) {
         15 => turned_away(
             b"15: a segment starts in the header, has more than 4,096 words or ends past the file",
         ),
-        19 => turned_away(b"19: the input has an odd number of bytes, or more than 65,536"),
+        19 => turned_away(b"19: the input ends in the middle of a word, or is longer than 65,536 bytes"),
         21 => refused(b"21: a word was to come from an odd address"),
         22 => refused(b"22: a word was to come from a segment that the file does not have"),
         23 => refused(b"23: a word was to come from past the end of its segment"),
         24 => refused(b"24: a word has a code that is not built"),
         25 => refused(b"25: a data word came before any mode was set"),
         26 => refused(b"26: the second word of a long vector or an absolute point has bit 15 set"),
-        27 => refused(b"27: X or Y would leave its range"),
+        27 => refused(b"27: X or Y would go below -4,096 or above 4,095"),
         _ => {}
     }
 }
