@@ -66,10 +66,10 @@ static void clear(void) {
 }
 
 static void read_pixel(int x, int y) {
-    uint8_t digit = 9;
     note();
-    add(roadparsnip_read_pixel(image, image_bytes, x, y, &digit));
-    add(digit);
+    roadparsnip_read read = roadparsnip_read_pixel(image, image_bytes, x, y);
+    add(read.answer);
+    add(read.digit);
 }
 
 /* ---- what a turn is */

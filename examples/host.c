@@ -1,6 +1,10 @@
-/* A host program: draws a chart of twelve weeks and prints it, and then hands over what every call must refuse. Where a call does not answer as it
-   should it says so and ends with status 1. docs/HOST.md says how to compile it; host.out is what it prints. */
+/* A host program. It draws a chart of twelve weeks and prints it. Then it asks for every refusal, and checks what comes back. Where something is not as
+   it should be it says so, and ends with status 1. docs/HOST.md says how to compile it; host.out is what it prints. */
 #include "roadparsnip.h"
+
+#if ROADPARSNIP_INTERFACE != 2
+#error "this program was written for interface 2 of roadparsnip.h"
+#endif
 
 #include <stdio.h>
 #include <string.h>
@@ -18,7 +22,6 @@ enum { CHART = sizeof chart / sizeof chart[0] };
 static uint8_t image[ROADPARSNIP_IMAGE_BYTES], before[ROADPARSNIP_IMAGE_BYTES];
 
 static int draw(void) {
-    uint8_t digit;
     if (roadparsnip_check(chart, CHART) != ROADPARSNIP_DONE) return 1;
     if (roadparsnip_clear(image, sizeof image) != ROADPARSNIP_DONE) return 1;
 
@@ -35,8 +38,9 @@ static int draw(void) {
     /* the top row first: y grows upward */
     for (int32_t y = 8; y >= 0; y--) {
         for (int32_t x = 0; x < 24; x++) {
-            if (roadparsnip_read_pixel(image, sizeof image, x, y, &digit) != ROADPARSNIP_DONE) return 1;
-            putchar(" -+#"[digit]);
+            roadparsnip_read read = roadparsnip_read_pixel(image, sizeof image, x, y);
+            if (read.answer != ROADPARSNIP_DONE) return 1;
+            putchar(" -+#"[read.digit]);
         }
         putchar('\n');
     }
@@ -45,7 +49,7 @@ static int draw(void) {
     return ran.answer != ROADPARSNIP_STOPPED;
 }
 
-/* ---- what is refused */
+/* ---- what is turned away */
 static int asked, wrong;
 
 static void expect(const char *what, int holds) {
@@ -77,8 +81,8 @@ static void refuse_files(roadparsnip_machine m) {
 }
 
 static int reads(const uint8_t *from, size_t bytes, int32_t x, int32_t y, int answer) {
-    uint8_t digit = 9;
-    return roadparsnip_read_pixel(from, bytes, x, y, &digit) == answer && digit == 0;
+    roadparsnip_read read = roadparsnip_read_pixel(from, bytes, x, y);
+    return read.answer == answer && read.digit == 0;
 }
 
 static void refuse_images(roadparsnip_machine m) {
@@ -112,12 +116,50 @@ static void refuse_machines(const roadparsnip_machine fresh) {
     expect("a machine that has stopped is 28", away(roadparsnip_step(chart, CHART, m, image, sizeof image), m, ROADPARSNIP_NOT_RUNNING));
 }
 
+/* ---- instructions that are refused */
+
+/* goes to (20, 50) and plots it: pixel (10, 25), in value 3. Two steps, three words, one store; the next instruction is at address 6 */
+#define POINT 0117400, 040024, 062
+
+static const struct refused {
+    const char *what;
+    uint8_t answer;
+    uint16_t counter;              /* the address of the refused instruction's first word */
+    uint32_t steps, words, stores; /* of the steps before it */
+    uint16_t count;
+    uint16_t file[16];
+} refused[] = {
+    {"a jump to an odd address is 21 there", ROADPARSNIP_ODD_ADDRESS, 7, 3, 5, 1, 9, {1, 1, 4, 5, POINT, 0160000, 7}},
+    {"a jump to a segment that is not there is 22", ROADPARSNIP_NO_SEGMENT, 8192, 3, 5, 1, 9, {1, 1, 4, 5, POINT, 0160000, 8192}},
+    {"the end of the segment is 23", ROADPARSNIP_NO_PLACE, 6, 2, 3, 1, 7, {1, 1, 4, 3, POINT}},
+    {"a code that is not built is 24", ROADPARSNIP_NOT_BUILT, 6, 2, 3, 1, 8, {1, 1, 4, 4, POINT, 0100000}},
+    {"data before a mode is 25", ROADPARSNIP_NO_MODE_SET, 2, 1, 1, 0, 6, {1, 1, 4, 2, 0164000, 040024}},
+    {"a second word with bit 15 is 26", ROADPARSNIP_SECOND_WORD, 6, 2, 3, 1, 9, {1, 1, 4, 5, POINT, 040100, 0100000}},
+    {"the fourth move by 1,023 is 27", ROADPARSNIP_OUT_OF_RANGE, 20, 6, 10, 1, 16, {1, 1, 4, 12, POINT, 0110000, 01777, 0, 01777, 0, 01777, 0, 041777, 0}},
+};
+
+/* The run leaves what a run of the steps before the refused instruction leaves. Only the status differs: it is the answer. */
+static void refuse_instruction(const struct refused *r) {
+    roadparsnip_machine m = roadparsnip_fresh();
+    expect(r->what, roadparsnip_clear(image, sizeof image) == ROADPARSNIP_DONE && roadparsnip_clear(before, sizeof before) == ROADPARSNIP_DONE);
+    roadparsnip_ran until = roadparsnip_run(r->file, r->count, m, before, sizeof before, r->steps);
+    roadparsnip_ran ran = roadparsnip_run(r->file, r->count, m, image, sizeof image, ROADPARSNIP_MOST_STEPS);
+    expect(r->what, ran.answer == r->answer && ran.machine.status == r->answer && ran.machine.counter == r->counter);
+    expect(r->what, ran.steps == r->steps && ran.words == r->words && ran.stores == r->stores);
+    expect(r->what, unchanged() && roadparsnip_read_pixel(image, sizeof image, 10, 25).digit == (r->stores == 1 ? 3 : 0));
+    ran.machine.status = 0;
+    expect(r->what, until.answer == ROADPARSNIP_DONE && memcmp(&ran.machine, &until.machine, sizeof m) == 0);
+}
+
 int main(void) {
     if (draw() != 0) return 1;
     memcpy(before, image, sizeof image);
     refuse_files(roadparsnip_fresh());
     refuse_images(roadparsnip_fresh());
     refuse_machines(roadparsnip_fresh());
-    printf("%d of %d refusals are as they should be, and nothing that was lent has changed\n", asked - wrong, asked);
+    printf("turned away: %d of %d checks hold\n", asked - wrong, asked);
+    int away_asked = asked, away_wrong = wrong;
+    for (size_t i = 0; i < sizeof refused / sizeof *refused; i++) refuse_instruction(refused + i);
+    printf("refused instructions: %d of %d checks hold\n", (asked - away_asked) - (wrong - away_wrong), asked - away_asked);
     return wrong != 0;
 }

@@ -36,11 +36,11 @@ sed -n 's/^    \([.#]*\)$/\1/p' docs/HOST.md >"$work/chart"
 tools/cc-x86 -std=c11 -Wall -Wextra -Wpedantic -Werror -O2 -I"$work/lib" -o "$work/host" "$work/chart.c" "$work/lib/libroadparsnip.a"
 $run "$work/host" | diff "$work/chart" - || fail 'the program of docs/HOST.md prints something else than it says there'
 
-# ---- the header: the machine has no gap, and a file that includes nothing else compiles
+# ---- the header: the machine has no gap, the records are as large as the code makes them, and a file that includes nothing else compiles
 cat >"$work/alone.c" <<'END'
 #include "roadparsnip.h"
 _Static_assert(sizeof(roadparsnip_machine) == 16, "no gap");
-_Static_assert(sizeof(roadparsnip_started) == 20 && sizeof(roadparsnip_ran) == 32, "the records of docs/HOST.md");
+_Static_assert(sizeof(roadparsnip_started) == 20 && sizeof(roadparsnip_ran) == 32 && sizeof(roadparsnip_read) == 2, "the records");
 END
 tools/cc-x86 -std=c11 -Wall -Wextra -Wpedantic -Werror -I"$work/lib" -c -o "$work/alone.o" "$work/alone.c"
 

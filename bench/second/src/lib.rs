@@ -33,6 +33,12 @@ pub struct HostRan {
     answer: u8,
 }
 
+#[repr(C)]
+pub struct HostRead {
+    digit: u8,
+    answer: u8,
+}
+
 impl From<HostMachine> for Machine {
     fn from(m: HostMachine) -> Machine {
         Machine {
@@ -145,10 +151,11 @@ pub unsafe extern "C" fn roadparsnip_read_pixel(
     bytes: usize,
     x: i32,
     y: i32,
-    digit: &mut u8,
-) -> u8 {
+) -> HostRead {
     let image = from_raw_parts(image, bytes);
-    let (answer, read) = second::read_pixel(image, Pixel(i64::from(x)), Pixel(i64::from(y)));
-    *digit = read;
-    answer.number()
+    let (answer, digit) = second::read_pixel(image, Pixel(i64::from(x)), Pixel(i64::from(y)));
+    HostRead {
+        digit,
+        answer: answer.number(),
+    }
 }

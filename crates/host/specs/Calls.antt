@@ -1,6 +1,6 @@
 -- The calls that take a machine in numbers: the rules of document 01's calls, with 16 also where a flag is out of range.
 use Prim.Native.Nat.{ℕ}
-use mathlib.Core.Bool.{not}
+use mathlib.Core.Bool.{true, not}
 use mathlib.Core.List.{List, [], _∷_}
 use lib.Dec.{eqb}
 use Rattle.definition.specs.Choice.{pick, Test, _when_, firstOf, joined}
@@ -10,11 +10,13 @@ use Rattle.definition.specs.Machine.{startedAt}
 use Rattle.definition.specs.Run.{State, begun, run}
 use Rattle.definition.specs.Calls.{Lent, given, imageDoors, budgetDoors, runningDoors}
 use Rattle.definition.specs.declared.Ran.{Ran}
+use Rattle.definition.specs.declared.Read.{Read}
 use Rattle.definition.specs.declared.Started.{Started}
 use Rattle.numbers.specs.Numbers.{numbersOf, machineOf, allRanged}
 use Rattle.numbers.specs.declared.HostMachine.{HostMachine}
 use Rattle.numbers.specs.declared.HostStarted.{HostStarted}
 use Rattle.numbers.specs.declared.HostRan.{HostRan}
+use Rattle.numbers.specs.declared.HostRead.{HostRead}
 
 unfoldable pub numberDoors : HostMachine → List Test
 numberDoors m = 16 when not (allRanged m) ∷ []
@@ -43,6 +45,13 @@ hostRun l m im b =
     let ran = hostAnswered (run (given l) b (begun (machineOf m) im)) in
     pick (eqb (hostDoor l m im b) 0) ran (hostTurnedAway m im (hostDoor l m im b))
 
+-- what a run answers a machine with a flag out of range: 11 where the image is wrong, else 12 to 15 where the file is refused, else 16
+unfoldable pub flagDoors : Lent → List ℕ → List Test
+flagDoors l im = joined (imageDoors im ∷ fileDoors (l .file) ∷ (16 when true ∷ []) ∷ [])
+
+unfoldable pub flagDoor : Lent → List ℕ → ℕ
+flagDoor l im = firstOf (flagDoors l im)
+
 -- what document 01's calls answer, in numbers
 abbrev pub startedNumbers : Started → HostStarted
 startedNumbers s = record { machine = numbersOf (s .machine); answer = s .answer }
@@ -51,3 +60,6 @@ abbrev pub ranNumbers : Left Ran → Left HostRan
 ranNumbers l =
     let r = l .result in
     left (record { machine = numbersOf (r .machine); steps = r .counts .steps; words = r .counts .words; stores = r .counts .stores; answer = r .answer }) (l .image)
+
+abbrev pub readNumbers : Read → HostRead
+readNumbers r = record { digit = r .digit; answer = r .answer }

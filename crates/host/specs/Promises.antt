@@ -4,15 +4,15 @@ use mathlib.Core.List.{List}
 use mathlib.Core.Path.{_≡_}
 use lib.IntN.{ℤ}
 use Rattle.definition.specs.Units.{pixel}
-use Rattle.definition.specs.Image.{left}
+use Rattle.definition.specs.Image.{square, left}
 use Rattle.definition.specs.Machine.{fresh}
-use Rattle.definition.specs.Calls.{Lent}
-use Rattle.definition.specs.Promises.{Promise-read}
+use Rattle.definition.specs.Calls.{Lent, readCall}
 use Rattle.numbers.specs.Numbers.{numbersOf}
 use Rattle.numbers.specs.declared.HostMachine.{HostMachine}
 use Rattle.numbers.specs.declared.HostStarted.{HostStarted}
 use Rattle.numbers.specs.declared.HostRan.{HostRan}
-use Rattle.host.specs.Calls.{hostStart, hostRun}
+use Rattle.numbers.specs.declared.HostRead.{HostRead}
+use Rattle.host.specs.Calls.{hostStart, hostRun, readNumbers}
 
 abbrev pub Promise-host-fresh : HostMachine → Type 0
 Promise-host-fresh m = m ≡ numbersOf fresh
@@ -26,6 +26,5 @@ Promise-host-run l m im b r after = left r after ≡ hostRun l m im b
 abbrev pub Promise-host-step : Lent → HostMachine → List ℕ → HostRan → List ℕ → Type 0
 Promise-host-step l m im r after = Promise-host-run l m im 1 r after
 
--- the answer is returned, and the digit is in a number that was lent
-abbrev pub Promise-host-read : List ℕ → ℤ → ℤ → ℕ → ℕ → Type 0
-Promise-host-read im x y answer digit = Promise-read im (pixel x y) (record { answer = answer; digit = digit })
+abbrev pub Promise-host-read : List ℕ → ℤ → ℤ → HostRead → Type 0
+Promise-host-read im x y r = r ≡ readNumbers (readCall square im (pixel x y))

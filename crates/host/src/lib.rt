@@ -3,6 +3,7 @@ use definition::Pixel;
 use definition::Pixels;
 use numbers::HostMachine;
 use numbers::HostRan;
+use numbers::HostRead;
 use numbers::HostStarted;
 ghost use Rattle.definition.specs.Calls.{plain};
 ghost use Rattle.definition.specs.Promises.{Promise-check, Promise-clear};
@@ -60,10 +61,9 @@ pub extern "C" fn roadparsnip_clear(image: &mut [u8]) -> u8
     display::clear(image)
 }
 
-// The answer is returned, and the digit put into a number that is lent.
 #[no_mangle]
-pub extern "C" fn roadparsnip_read_pixel(image: &[u8], x: i32, y: i32, digit: &mut u8) -> u8
-    ensures { λ r. ⌜ Promise-host-read (now (image .entry)) x y r (now (digit .exit)) ⌝ }
+pub extern "C" fn roadparsnip_read_pixel(image: &[u8], x: i32, y: i32) -> HostRead
+    ensures { λ r. ⌜ Promise-host-read (now (image .entry)) x y r ⌝ }
 {
     let read = display::read_pixel(
         image,
@@ -72,6 +72,8 @@ pub extern "C" fn roadparsnip_read_pixel(image: &[u8], x: i32, y: i32, digit: &m
             y: Pixels(y),
         },
     );
-    *digit = read.digit;
-    read.answer
+    HostRead {
+        digit: read.digit,
+        answer: read.answer,
+    }
 }

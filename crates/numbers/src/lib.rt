@@ -34,6 +34,12 @@ pub struct HostRan {
     pub answer: u8,
 }
 
+#[repr(C)]
+pub struct HostRead {
+    pub digit: u8,
+    pub answer: u8,
+}
+
 fn number(flag: bool) -> u8
     ensures { λ r. ⌜ r ≡ number flag ⌝ }
 {

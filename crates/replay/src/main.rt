@@ -78,7 +78,9 @@ fn called(head: &[u8], file: &[u16], image: &mut [u8], digit: &mut u8) -> HostRa
         _ => {
             let x = records::signed_at(head, 24);
             let y = records::signed_at(head, 28);
-            uncounted(m, host::roadparsnip_read_pixel(image, x, y, digit))
+            let read = host::roadparsnip_read_pixel(image, x, y);
+            *digit = read.digit;
+            uncounted(m, read.answer)
         }
     }
 }
