@@ -1,15 +1,24 @@
--- The words of a list of bytes, put into a list one after the other: those that are there, and then the words of the bytes that are left, are all of them.
+-- The words of a list of bytes, put into a list one after the other: those that are there, and then the words of the bytes that are left, are all of them; and
+-- the rest of the list is as it was.
 use Prim.Native.Nat.{ℕ, suc, _+_, _*_, _/_, _<_, _≤_}
 use mathlib.Core.List.{List, [], _∷_, _++_, append-nil}
-use mathlib.Core.Path.{_≡_, refl, sym, _∙_}
+use mathlib.Core.Path.{_≡_, refl, sym, ap, _∙_}
 use native.Mathlib.Numerals.{add-one}
 use native.Mathlib.Omega.{arith}
 use lib.ListN.{length, getD, set, take, drop, length-drop}
-use lib.Seq.{length-take-le, drop-cons, take-suc-set, append-snoc}
+use lib.Seq.{length-take-le, drop-cons, drop-set-lt, take-suc-set, drop-drop, append-snoc}
 use Rattle.io.specs.Counts.{Counts}
 use Rattle.definition.specs.Plot.{wordsIn}
 
--- i words are there
+-- ---- two lists that are the same from a place on: so they are further on, and after a store at that place
+module _ (xs ys : List ℕ) (i : ℕ) (same : drop i xs ≡ drop i ys) where
+  pub same-on : (k : ℕ) → drop (i + k) xs ≡ drop (i + k) ys
+  same-on k = sym (drop-drop k i xs) ∙ ap (drop k) same ∙ drop-drop k i ys
+
+  pub same-after : (v : ℕ) → drop (i + 1) (set xs i v) ≡ drop (i + 1) ys
+  same-after v = drop-set-lt (i + 1) xs i v (omega arith) ∙ same-on 1
+
+-- ---- i words are there
 abbrev pub Begun : List ℕ → List ℕ → ℕ → Type 0
 Begun bytes words i = take i words ++ wordsIn (drop (2 * i) bytes) ≡ wordsIn bytes
 
@@ -34,8 +43,8 @@ no-pair [] h = refl
 no-pair (low ∷ []) h = refl
 no-pair (low ∷ high ∷ rest) h = absurd (omega arith)
 
-pub all-there : (bytes words : List ℕ) (i : ℕ) {n : ℕ} → Begun bytes words i → n ≡ length bytes / 2 → i ≡ n → n ≤ length words
-    → Counts n words × (take n words ≡ wordsIn bytes)
-all-there bytes words i so e p h =
+pub all-there : (bytes before words : List ℕ) (i : ℕ) {n : ℕ} → Begun bytes words i → drop i words ≡ drop i before → n ≡ length bytes / 2 → i ≡ n → n ≤ length words
+    → Counts n words × ((take n words ≡ wordsIn bytes) × (drop n words ≡ drop n before))
+all-there bytes before words i so rest e p h =
     let none = no-pair (drop (2 * i) bytes) (omega (arith, length-drop (2 * i) bytes)) in
-    ((h, sym (length-take-le _ words h)), rw (← p) (sym (append-nil (take i words)) ∙ (rw none at so)))
+    ((h, sym (length-take-le _ words h)), (rw (← p) (sym (append-nil (take i words)) ∙ (rw none at so)), rw (← p) rest))

@@ -2,7 +2,7 @@
 use definition::Units;
 ghost use mathlib.Core.Path.{_≡_};
 ghost use Prim.Native.Nat.{_+_, _*_, _/_, _≤_};
-ghost use lib.ListN.{length, take};
+ghost use lib.ListN.{length, take, drop};
 ghost use Rattle.io.specs.Counts.{Counts};
 ghost use Rattle.definition.specs.Image.{blank};
 ghost use Rattle.definition.specs.Machine.{fresh};
@@ -30,11 +30,12 @@ fn word_of(low: u8, high: u8) -> u16
     low as u16 + 256 * (high as u16)
 }
 
-// Puts the words of the bytes at the start of a list that has room for them, and answers how many they are.
+// Puts the words of the bytes at the start of a list that has room for them, leaves the rest of it, and answers how many they are.
 pub fn words_of(bytes: &[u8], words: &mut [u16]) -> usize
     requires { ⌜ length (now bytes) / 2 ≤ length (now words) ⌝ }
     ensures { λ r. ⌜ Counts r (now (words .exit)) ⌝ }
     ensures { λ r. ⌜ take r (now (words .exit)) ≡ wordsIn (now (bytes .entry)) ⌝ }
+    ensures { λ r. ⌜ drop r (now (words .exit)) ≡ drop r (now (words .entry)) ⌝ }
 {
     let n = bytes.len() / 2;
     let mut i = 0;

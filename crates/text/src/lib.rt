@@ -5,7 +5,7 @@ ghost use mathlib.Core.Path.{_≡_};
 ghost use mathlib.Core.List.{[], _∷_, _++_};
 ghost use Prim.Native.Nat.{_+_, _≤_};
 ghost use lib.IntN.{pos, natAbs};
-ghost use lib.ListN.{length, take};
+ghost use lib.ListN.{length, take, drop};
 ghost use Rattle.io.specs.Counts.{Counts};
 ghost use Rattle.definition.specs.Plot.{printed, text as spelled, plotText};
 ghost use Rattle.line.specs.Numbers.{counts};
@@ -95,10 +95,11 @@ fn put_position(text: &mut [u8], at: usize, x: Units, y: Units) -> usize
     put(text, newline, b"\n")
 }
 
-// What `plot` writes for the bytes that it reads, put into a text that has room for every line; answers how many bytes it is.
+// What `plot` writes for the bytes that it reads, put into a text that has room for every line. Leaves the rest of the text, and answers how many bytes it is.
 pub fn text_of(bytes: &[u8], text: &mut [u8; 160]) -> usize
     ensures { λ r. ⌜ Counts r (now (text .exit)) ⌝ }
     ensures { λ r. ⌜ take r (now (text .exit)) ≡ plotText (now (bytes .entry)) ⌝ }
+    ensures { λ r. ⌜ drop r (now (text .exit)) ≡ drop r (now (text .entry)) ⌝ }
 {
     let line = line::line_of(bytes);
     let at = put_counts(text, line);

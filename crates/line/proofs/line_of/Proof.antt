@@ -32,7 +32,7 @@ line-of-run-requires : tie.Need-line-of-run-requires
 line-of-run-requires c κs = search needs
 
 returns-3 : tie.Need-returns-3
-returns-3 c = ran _ (omega arith) (omega arith) (c .before .before .before .words-of .ensures .1) (c .line-of-run .ensures)
+returns-3 c = ran _ (omega arith) (omega arith) (c .before .before .before .words-of .ensures .1 .0) (c .line-of-run .ensures)
 
 pub line-of-spec : {M : Type 1} → statement M
 line-of-spec =

@@ -1,20 +1,20 @@
 use Prim.Native.Nat.{_-_, _/_, _≤_}
 use mathlib.Core.Path.{_≡_, refl}
 use native.Mathlib.Omega.{arith}
-use lib.ListN.{length, length-set}
-use Rattle.line.proofs.WordsLaws.{Begun, one-more, all-there}
+use lib.ListN.{length, drop, length-set}
+use Rattle.line.proofs.WordsLaws.{same-after, Begun, one-more, all-there}
 use borrow.Author.Needs.{needs}
 use Rattle.line.proofs.words_of.Statement.{statement}
 use Rattle.line.proofs.words_of.Tie as tie
 
 abbrev Inv-loop : tie.InvT-loop
-Inv-loop bytes words₀ n i₀ words i = (i ≤ n) × (n ≡ length bytes / 2) × (n ≤ length words) × (length words ≡ length words₀) × Begun bytes words i
+Inv-loop bytes words₀ n i₀ words i = (i ≤ n) × (n ≡ length bytes / 2) × (n ≤ length words) × (length words ≡ length words₀) × Begun bytes words i × (drop i words ≡ drop i words₀)
 
 abbrev μ-loop : tie.MeasureT-loop
 μ-loop bytes words₀ n i₀ words i = n - i
 
 loop-holds : tie.Need-loop-holds Inv-loop μ-loop
-loop-holds c = (omega arith, refl, omega arith, refl, refl)
+loop-holds c = (omega arith, refl, omega arith, refl, refl, refl)
 
 mul-low : tie.Need-mul-low Inv-loop μ-loop
 mul-low c = search needs
@@ -51,13 +51,13 @@ loop-again c =
     let l = c .before .before .before .before in
     let b = l .before .before .before .args .bytes .now in
     let more = one-more b (l .loop .words) (l .loop .i) (omega arith) (omega arith) (c .word-of .ensures) (l .loop .inv .4) in
-    (omega arith, l .loop .inv .1, simp length-set (omega arith), simp length-set (omega arith), more)
+    (omega arith, l .loop .inv .1, simp length-set (omega arith), simp length-set (omega arith), more, same-after (l .loop .words) _ (l .loop .i) (l .loop .inv .5) _)
 
 same-length : tie.Need-same-length Inv-loop μ-loop
 same-length c = search needs
 
 returns : tie.Need-returns Inv-loop μ-loop
-returns c = let l = c .before in all-there _ _ (l .loop .i) (l .loop .inv .4) (l .loop .inv .1) (omega arith) (l .loop .inv .2)
+returns c = let l = c .before in all-there _ _ _ (l .loop .i) (l .loop .inv .4) (l .loop .inv .5) (l .loop .inv .1) (omega arith) (l .loop .inv .2)
 
 pub words-of-spec : {M : Type 1} → statement M
 words-of-spec =

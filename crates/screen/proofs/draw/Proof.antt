@@ -42,7 +42,7 @@ returns-3 c =
     let f = c .before .before in
     let w = f .before .before .before in
     let cleared = blank-again (w .before .before .before .before) in
-    ran _ cleared (omega arith) (omega arith) (w .words-of .ensures .1) (f .fresh .ensures) refl (c .run .ensures)
+    ran _ cleared (omega arith) (omega arith) (w .words-of .ensures .1 .0) (f .fresh .ensures) refl (c .run .ensures)
 
 pub draw-spec : {M : Type 1} → statement M
 draw-spec =
