@@ -49,8 +49,7 @@ loop-less c = search needs
 loop-again : tie.Need-loop-again Inv-loop μ-loop
 loop-again c =
     let l = c .before .before .before .before in
-    let b = l .before .before .before .args .bytes .now in
-    let more = one-more b (l .loop .words) (l .loop .i) (omega arith) (omega arith) (c .word-of .ensures) (l .loop .inv .4) in
+    let more = one-more _ (l .loop .words) (l .loop .i) (omega arith) (omega arith) (c .word-of .ensures) (l .loop .inv .4) in
     (omega arith, l .loop .inv .1, simp length-set (omega arith), simp length-set (omega arith), more, same-after (l .loop .words) _ (l .loop .i) (l .loop .inv .5) _)
 
 same-length : tie.Need-same-length Inv-loop μ-loop
