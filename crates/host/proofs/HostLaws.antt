@@ -110,7 +110,7 @@ module _ (l : Lent) (m : HostMachine) (im : List ℕ) (b : ℕ) where
   unfolding hostDoor hostDoors imageDoors fileDoors headDoors segmentDoors numberDoors budgetDoors runningDoors
   flags-open z = ranged-flags m (not-false .0 (fails 16 (hostDoors l m im b) refl z))
 
-  pub whole-run : runNumbers m (runCall l (taken m) im b) ≡ hostRun l m im b
+  whole-run : runNumbers m (runCall l (taken m) im b) ≡ hostRun l m im b
   unfolding runCall hostRun ranOf
   whole-run = rw same-door (go (eqb door 0) refl)
     where
