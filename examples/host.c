@@ -59,6 +59,14 @@ static void expect(const char *what, int holds) {
     wrong++;
 }
 
+/* what was expected since the last report; 1 where something was wrong */
+static int report(const char *what) {
+    int failed = wrong != 0;
+    printf("%s: %d of %d checks hold\n", what, asked - wrong, asked);
+    asked = wrong = 0;
+    return failed;
+}
+
 static int unchanged(void) { return memcmp(image, before, sizeof image) == 0; }
 
 /* A run that is turned away gives the machine back as it was, counts nothing and draws nothing. */
@@ -114,6 +122,10 @@ static void refuse_machines(const roadparsnip_machine fresh) {
     expect("a budget too large is 17", away(roadparsnip_run(chart, CHART, fresh, image, sizeof image, ROADPARSNIP_MOST_STEPS + 1), fresh, ROADPARSNIP_BAD_BUDGET));
     m = fresh, m.status = ROADPARSNIP_STOPPED;
     expect("a machine that has stopped is 28", away(roadparsnip_step(chart, CHART, m, image, sizeof image), m, ROADPARSNIP_NOT_RUNNING));
+    m.latch = 2;
+    expect("11 comes before 16", away(roadparsnip_run(chart, CHART, m, image, sizeof image - 1, 9), m, ROADPARSNIP_BAD_IMAGE));
+    expect("15 comes before 16", away(roadparsnip_run(chart, CHART - 1, m, image, sizeof image, 9), m, ROADPARSNIP_BAD_SEGMENT));
+    expect("16 comes before 17 and 28", away(roadparsnip_run(chart, CHART, m, image, sizeof image, ROADPARSNIP_MOST_STEPS + 1), m, ROADPARSNIP_BAD_MACHINE));
 }
 
 /* ---- instructions that are refused */
@@ -157,9 +169,7 @@ int main(void) {
     refuse_files(roadparsnip_fresh());
     refuse_images(roadparsnip_fresh());
     refuse_machines(roadparsnip_fresh());
-    printf("turned away: %d of %d checks hold\n", asked - wrong, asked);
-    int away_asked = asked, away_wrong = wrong;
+    int failed = report("turned away");
     for (size_t i = 0; i < sizeof refused / sizeof *refused; i++) refuse_instruction(refused + i);
-    printf("refused instructions: %d of %d checks hold\n", (asked - away_asked) - (wrong - away_wrong), asked - away_asked);
-    return wrong != 0;
+    return report("refused instructions") | failed;
 }
