@@ -12,7 +12,6 @@ use Rattle.definition.specs.Calls.{Lent, plain, startCall, runCall, stepCall}
 use Rattle.definition.specs.declared.Machine.{Machine}
 use Rattle.demands.specs.Conditions.{Accepted, SameWords}
 use Rattle.demands.proofs.Demands as demands
-use Rattle.demands.proofs.Drawing as drawing
 use Rattle.numbers.specs.Numbers.{numbersOf, machineOf, flags}
 use Rattle.numbers.specs.declared.HostMachine.{HostMachine}
 use Rattle.numbers.specs.declared.HostRan.{HostRan}
@@ -72,7 +71,7 @@ host-run-16 = laws.run-16
 -- ==== words in no segment decide nothing (of check: check-reads-the-header of Demands.antt)
 -- in two files of one length with the same header and the same words in their segments, accepted or not
 pub host-run-of-one-length : (f h : List ℕ) → SameWords f h → length f ≡ length h → (m : HostMachine) (im : List ℕ) (b : ℕ) → hostRun (plain f) m im b ≡ hostRun (plain h) m im b
-host-run-of-one-length f h s e = laws.alike (plain f) (plain h) (drawing.run-of-one-length f h s e)
+host-run-of-one-length f h s e = laws.alike (plain f) (plain h) (demands.run-of-one-length f h s e)
 
 pub host-step-of-one-length : (f h : List ℕ) → SameWords f h → length f ≡ length h → (m : HostMachine) (im : List ℕ) → hostRun (plain f) m im 1 ≡ hostRun (plain h) m im 1
 host-step-of-one-length f h s e m im = host-run-of-one-length f h s e m im 1
