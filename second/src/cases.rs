@@ -1,14 +1,14 @@
-//! Random display files, each with its line, so that another account of the same
-//! processor can be held against this one.
+//! Random display files, each with its line and the pixels that it stores, so that another
+//! account of the same processor can be held against this one.
 //!
-//! A reader of the line sees the picture only as a count of stores. So most programs
+//! A reader of the line alone sees the picture only as a count of stores. So most programs
 //! draw across the edges of the field, where a pixel that is put wrongly is counted wrongly.
 
 use std::fmt;
 use std::iter;
 use std::mem;
 
-use crate::plot::{plot, Line};
+use crate::plot::{plot, stored, Line};
 
 const SEGMENTS: u16 = 8;
 const SEGMENT_WORDS: u16 = 4_096;
@@ -53,6 +53,7 @@ pub fn cases(seed: u64) -> impl Iterator<Item = Case> {
     iter::repeat_with(move || case(&mut random))
 }
 
+/// The bytes in hex, the seven numbers of the line, and each store as `x,y`, in their order.
 impl fmt::Display for Case {
     fn fmt(&self, f: &mut fmt::Formatter) -> fmt::Result {
         if self.bytes.is_empty() {
@@ -61,7 +62,11 @@ impl fmt::Display for Case {
         for byte in &self.bytes {
             write!(f, "{:02x}", byte)?;
         }
-        write!(f, " {}", self.line)
+        write!(f, " {}", self.line)?;
+        for place in stored(&self.bytes) {
+            write!(f, " {},{}", place.x.0, place.y.0)?;
+        }
+        Ok(())
     }
 }
 
@@ -732,12 +737,17 @@ mod tests {
     }
 
     #[test]
-    fn a_case_is_printed_as_hex_and_its_line() {
+    fn a_case_is_printed_as_hex_its_line_and_its_stores() {
         let case = |bytes: &[u8]| Case {
             bytes: bytes.to_vec(),
             line: plot(bytes),
         };
         assert_eq!(case(&[]).to_string(), "- 12 0 0 0 0 0 0");
         assert_eq!(case(&[2, 0, 171, 9]).to_string(), "0200ab09 13 0 0 0 0 0 0");
+        let words = [1, 1, 4, 4, 0o113400, 0o040006, 4, 0o172000];
+        assert_eq!(
+            case(&bytes_of(&words)).to_string(),
+            "010001000400040000970640040000f4 1 3 4 4 8 6 4 0,0 1,1 2,1 3,2"
+        );
     }
 }

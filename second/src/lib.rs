@@ -23,5 +23,5 @@ pub use answer::{Answer, Door, Fault};
 pub use file::check;
 pub use image::{clear, read_pixel, IMAGE_BYTES};
 pub use machine::{fresh, start, Machine, NO_MODE};
-pub use run::{run, step, Outcome, BUDGET_LIMIT};
+pub use run::{run, run_noting, step, Outcome, BUDGET_LIMIT};
 pub use unit::{Pixel, Place, Position, Unit};

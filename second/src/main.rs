@@ -1,6 +1,6 @@
 //! The command: `second plot` reads a display file and prints its line,
 //! `second picture` and `second fault` write its screen as a PGM, right and with the old fault,
-//! `second cases SEED COUNT` prints random files with theirs,
+//! `second cases SEED COUNT` prints random files with theirs and the pixels that they store,
 //! `second files SEED COUNT DIR` writes random files and a list of their lines,
 //! `second parts SEED DIR [COUNT]` writes cases for the parts of an implementation, and
 //! `second replay SEED DIR [COUNT]` writes cases for its calls, and a table of what occurs.

@@ -5,7 +5,8 @@ use std::fmt;
 use crate::answer::{Answer, Door};
 use crate::image::IMAGE_BYTES;
 use crate::machine::fresh;
-use crate::run::run;
+use crate::run::run_noting;
+use crate::unit::Place;
 
 /// The most bytes a file may have.
 pub const INPUT_LIMIT: usize = 65_536;
@@ -26,6 +27,17 @@ pub struct Line {
 
 /// Runs a fresh machine on the file that the bytes spell.
 pub fn plot(bytes: &[u8]) -> Line {
+    plot_noting(bytes, |_| ())
+}
+
+/// The pixels that this run stores, one for each store, in the order of the stores.
+pub fn stored(bytes: &[u8]) -> Vec<Place> {
+    let mut places = Vec::new();
+    plot_noting(bytes, |place| places.push(place));
+    places
+}
+
+fn plot_noting(bytes: &[u8], note: impl FnMut(Place)) -> Line {
     if bytes.len() % 2 == 1 || bytes.len() > INPUT_LIMIT {
         return Line::refused(Door::PlotInput);
     }
@@ -34,7 +46,7 @@ pub fn plot(bytes: &[u8]) -> Line {
         .map(|pair| u16::from_le_bytes([pair[0], pair[1]]))
         .collect();
     let mut image = vec![0; IMAGE_BYTES];
-    let outcome = run(&words, fresh(), &mut image, BUDGET);
+    let outcome = run_noting(&words, fresh(), &mut image, BUDGET, note);
     if let Answer::Refused(door) = outcome.answer {
         return Line::refused(door);
     }

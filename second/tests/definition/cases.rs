@@ -2,7 +2,7 @@
 
 use std::process::{Command, Output};
 
-use second::plot::plot;
+use second::plot::{plot, stored};
 
 fn call(arguments: &[&str]) -> Output {
     Command::new(env!("CARGO_BIN_EXE_second"))
@@ -31,13 +31,20 @@ fn bytes_in(hex: &str) -> Vec<u8> {
 }
 
 #[test]
-fn each_line_is_a_file_and_what_plot_prints_for_it() {
+fn each_line_is_a_file_and_what_plot_prints_for_it_and_its_stores() {
     let text = printed("3", "300");
     assert!(text.ends_with('\n'));
     assert_eq!(text.lines().count(), 300);
     for line in text.lines() {
-        let (hex, numbers) = line.split_once(' ').expect("a space behind the bytes");
-        assert_eq!(numbers, plot(&bytes_in(hex)).to_string(), "{}", hex);
+        let parts: Vec<&str> = line.split(' ').collect();
+        let bytes = bytes_in(parts[0]);
+        assert_eq!(parts[1..8].join(" "), plot(&bytes).to_string(), "{}", line);
+        let places: Vec<String> = stored(&bytes)
+            .iter()
+            .map(|place| format!("{},{}", place.x.0, place.y.0))
+            .collect();
+        assert_eq!(parts[8..], places, "{}", line);
+        assert_eq!(parts[4], places.len().to_string(), "{}", line);
     }
 }
 

@@ -1,6 +1,6 @@
 //! Runs as repeated steps: budgets, counts, and what may not matter.
 
-use second::{fresh, run, start, step, Machine};
+use second::{fresh, run, run_noting, start, step, Machine};
 
 use crate::support::*;
 
@@ -170,4 +170,23 @@ fn a_start_at_an_odd_address_is_refused_by_the_fetch() {
     assert_eq!(answer.number(), 0);
     let outcome = run_on_blank(&[0o164000, 0o164000], machine, 1).0;
     assert_eq!((outcome.answer.number(), outcome.machine.counter), (21, 3));
+}
+
+/// A lit vector, the same one back, and a point that stands there already: every store is noted,
+/// in the order of the stores, and what lies beyond the field is not.
+#[test]
+fn stores_are_noted_in_their_order() {
+    let words = file(&[
+        0o041002, 0o061102, 0o114000, 0o040004, 0o000002, 0o104000, 0o064000,
+    ]);
+    let mut image = blank();
+    let mut noted = Vec::new();
+    let outcome = run_noting(&words, machine_at(0, 0, 1), &mut image, 6, |place| {
+        noted.push((place.x.0, place.y.0));
+    });
+    let there = [(0, 0), (1, 1), (2, 1)];
+    let back = [(2, 1), (1, 1), (0, 0)];
+    let beyond = [(2, 1), (1, 1), (0, 1)];
+    assert_eq!(noted, [&there[..], &back, &[(2, 1)], &beyond].concat());
+    assert_eq!(outcome.stores, noted.len() as u64);
 }
