@@ -1,11 +1,14 @@
 #!/usr/bin/env python3
 """Wrong rules, one at a time: each is put into a copy of the definition, and a worked example must refuse it.
 
-Not part of ./test, for the time that it takes (some 15 minutes): run it when a rule or an example has changed.
+With no argument it tries all of them, which takes some 15 minutes: run it when a rule or an example has changed.
+With --some N --seed S it tries N of them, chosen by the seed; ./test does so.
 It prints each rule that behaves other than it is marked, and exits 0 where there is none.
 """
+import argparse
 import os
 import pathlib
+import random
 import re
 import shutil
 import subprocess
@@ -14,7 +17,9 @@ import tempfile
 from concurrent.futures import ThreadPoolExecutor
 
 TOP = pathlib.Path(__file__).resolve().parent.parent
-EXAMPLES = ["Opened", "Worked", "Layouts", "Readings", "Runs", "Numbers", "Computed"]
+EXAMPLES = ["Opened", "Worked", "Layouts", "Readings", "Runs", "Numbers"]
+# Those of crates/worked, which take longer: asked where the others take a rule.
+WHOLE_IMAGES = ["Computed"]
 
 # A rule that gives other outcomes, and one that nobody can tell from the right one (docs/DECISIONS.md, 10).
 WRONG, SAME = "wrong", "same"
@@ -124,6 +129,7 @@ RULES = [
     (WRONG, 'relative draws', 'Step', 'itemPixels m (RelativePoint dx dy) v = pointAt m (moved (m .x) dx) (moved (m .y) dy)', 'itemPixels m (RelativePoint dx dy) v = vectorBy m dx dy'),
     (WRONG, 'absolute plots start', 'Step', 'itemPixels m (AbsolutePoint x) v = pointAt m x (coordinate v)', 'itemPixels m (AbsolutePoint x) v = pointAt m (m .x) (m .y)'),
     (WRONG, 'long Y by X', 'Step', 'itemPixels m (LongVector dx) v = vectorBy m dx (long v)', 'itemPixels m (LongVector dx) v = vectorBy m dx dx'),
+    (WRONG, 'cut, and drawn afresh', 'Step', '(inside (shapeOf m) (itemPixels m it v)) []', '(let p = pixelAt (shapeOf m) (m .x) (m .y) in let cut = inside (shapeOf m) (itemPixels m it v) in inside (shapeOf m) (vector (lib.ListN.getD cut 0 p) (lib.ListN.getD (mathlib.Core.List.reverse cut) 0 p))) []'),
     (WRONG, 'unlit stored', 'Step', 'pick (lit && m .write)', 'pick (m .write)'),
     (WRONG, 'stop 1 2', 'Step', '(pick (m .latch) 2 1)', '(pick (m .latch) 1 2)'),
     (WRONG, 'latch always', 'Step', '(withLatch m (pick (b .loads) (b .latch) (m .latch)))', '(withLatch m (b .latch))'),
@@ -173,6 +179,7 @@ RULES = [
     (WRONG, 'by one always up', 'Vector', 'byOne start (negsuc _) i = start -ℤ pos i', 'byOne start (negsuc _) i = start +ℤ pos i'),
     (WRONG, 'shorter', 'Vector', 'longer a b = max', 'longer a b = min'),
     (WRONG, 'n = 0 none', 'Vector', 'pick (eqb (longer a b) 0) (a ∷ [])', 'pick (eqb (longer a b) 0) []'),
+    (WRONG, 'drawn from the end', 'Vector', 'numbered f (suc k) = numbered f k ++ (f k ∷ [])', 'numbered f (suc k) = f k ∷ numbered f k'),
     (WRONG, 'half down', 'Vector', '*ℤ difference +ℤ pos n) (2 * n)', '*ℤ difference +ℤ pos n -ℤ pos 1) (2 * n)'),
 ]
 
@@ -207,60 +214,102 @@ def lost_fields():
 
 
 def copy(where):
-    """The definition with its examples and no law, in a repository of its own."""
-    for crate in ["whole", "definition"]:
-        shutil.copytree(TOP / "crates" / crate, where / "crates" / crate, ignore=shutil.ignore_patterns("must-fail"))
+    """The definition without its proofs, in a repository of its own."""
+    shutil.copytree(TOP / "crates/whole", where / "crates/whole", ignore=shutil.ignore_patterns("must-fail"))
+    shutil.copytree(TOP / "crates/definition", where / "crates/definition", ignore=shutil.ignore_patterns("must-fail", "proofs"))
+    (where / "crates/definition/proofs").mkdir()
     (where / "crates.txt").write_text("whole:\ndefinition: whole\n")
-    proofs = where / "crates/definition/proofs"
-    for path in proofs.iterdir():
-        if path.stem not in EXAMPLES:
-            path.unlink()
-    computed = (TOP / "crates/worked/proofs/Computed.antt").read_text()
-    for part in ["specs", "proofs"]:
-        computed = computed.replace(f"Rattle.definition.{part}", f"Rattle.definition.{part}")
-    (proofs / "Computed.antt").write_text(computed)
-    (proofs / "Lib.antt").write_text("".join(f"pub mod {name}\n" for name in EXAMPLES))
     subprocess.run(["git", "init", "-q", str(where)], check=True)
 
 
+def text(name):
+    """A file of examples, as it reads in the copy."""
+    if name not in WHOLE_IMAGES:
+        return (TOP / "crates/definition/proofs" / f"{name}.antt").read_text()
+    whole = (TOP / "crates/worked/proofs" / f"{name}.antt").read_text()
+    for part in ["specs", "proofs"]:
+        whole = whole.replace(f"Rattle.definition.{part}", f"Rattle.definition.{part}")
+    return whole
+
+
+def definition(command, where, names):
+    """What rt says of the copy with these files of examples."""
+    proofs = where / "crates/definition/proofs"
+    for name in EXAMPLES + WHOLE_IMAGES:
+        path = proofs / f"{name}.antt"
+        if name in names and not path.exists():
+            path.write_text(text(name))
+        elif name not in names:
+            path.unlink(missing_ok=True)
+    (proofs / "Lib.antt").write_text("".join(f"pub mod {name}\n" for name in names))
+    return subprocess.run(["rt", command, "definition"], cwd=where, stdout=subprocess.PIPE, stderr=subprocess.STDOUT, text=True)
+
+
+def examples(name):
+    """The examples of such a file: what is proved by computing it."""
+    return re.findall(r"^(\S+) = (?:refl|rw)\b", text(name), re.M) if name in EXAMPLES + WHOLE_IMAGES else []
+
+
 def refusal(where, rule):
-    """Where the first error stands, or None where the rule is taken."""
-    _, name, file, old, new = rule
+    """What refuses the rule, and whether that is a worked example; or None where the rule is taken."""
+    _, _, file, old, new = rule
     path = where / "crates/definition/specs" / f"{file}.antt"
     right = path.read_text()
     if right.count(old) != 1:
-        return f"{name}: its text stands in {file}.antt {right.count(old)} times"
+        return f"its text stands in {file}.antt {right.count(old)} times", False
     wrong = right.replace(old, new)
     for a, b in IMPORTS.get(file, []):
         wrong = wrong.replace(a, b)
     path.write_text(wrong)
-    ran = subprocess.run(["rt", "dev", "definition"], cwd=where, stdout=subprocess.PIPE, stderr=subprocess.STDOUT, text=True)
+    ran = definition("dev", where, EXAMPLES)
+    if ran.returncode == 0:
+        ran = definition("dev", where, EXAMPLES + WHOLE_IMAGES)
     path.write_text(right)
     if ran.returncode == 0:
         return None
-    first = re.search(r"(\w+/\w+\.antt):\d+:\d+: error", ran.stdout)
-    return first[1] if first else "no error was printed"
+    first = re.search(r"(\w+)/(\w+)\.antt:\d+:\d+: error: (?:`(\S+)`)?", ran.stdout)
+    if not first:
+        return "no error was printed", False
+    folder, name, what = first.groups()
+    return f"{folder}/{name}.antt, {what}", folder == "proofs" and what in examples(name)
 
 
 def tried(rules):
+    """The rules that behave other than they are marked, each with a sentence."""
     found = []
     with tempfile.TemporaryDirectory() as scratch:
         where = pathlib.Path(scratch)
         copy(where)
+        # With no rule changed the copy must be proved; else a refusal says nothing.
+        ran = definition("check", where, EXAMPLES + WHOLE_IMAGES)
+        if ran.returncode != 0:
+            return ["NOTHING TRIED: the examples refuse the right rules\n" + ran.stdout[-2000:]]
         for rule in rules:
-            at = refusal(where, rule)
-            if rule[0] == WRONG and at is None:
+            got = refusal(where, rule)
+            if rule[0] == WRONG and got is None:
                 found.append(f"NOT REFUSED: {rule[1]}")
-            elif rule[0] == SAME and at is not None:
-                found.append(f"refused, though marked the same: {rule[1]} ({at})")
-            elif rule[0] == WRONG and not at.startswith("proofs/"):
-                found.append(f"refused for another reason: {rule[1]} ({at})")
+            elif rule[0] == SAME and got is not None:
+                found.append(f"refused, though marked the same: {rule[1]} ({got[0]})")
+            elif rule[0] == WRONG and not got[1]:
+                found.append(f"refused, and not by an example: {rule[1]} ({got[0]})")
     return found
 
 
+def arguments():
+    parser = argparse.ArgumentParser(description="Wrong rules, one at a time, against the worked examples.")
+    parser.add_argument("--some", type=int, metavar="N", help="try N of those that are marked wrong, and not all")
+    parser.add_argument("--seed", type=int, default=0, metavar="S", help="which of them")
+    return parser.parse_args()
+
+
 def main():
+    asked = arguments()
     rules = RULES + lost_fields()
     workers = min(2, os.cpu_count() or 1)
+    if asked.some is not None:
+        rules = random.Random(asked.seed).sample([rule for rule in rules if rule[0] == WRONG], asked.some)
+        print("chosen: " + "; ".join(rule[1] for rule in rules), flush=True)
+        workers = 1
     with ThreadPoolExecutor(workers) as pool:
         found = [line for lines in pool.map(tried, [rules[i::workers] for i in range(workers)]) for line in lines]
     print("\n".join(found + [f"{len(rules)} rules tried, {len(found)} to look at"]))
