@@ -14,12 +14,14 @@ const DIGIT: u8 = 3;
 /// A lent image of the right size.
 pub(crate) struct Image<'a> {
     bytes: &'a mut [u8; IMAGE_BYTES],
+    /// Where the pixel of each store is noted, for those who ask.
+    pub(crate) notes: Option<&'a mut Vec<Place>>,
 }
 
 impl<'a> Image<'a> {
     pub(crate) fn lend(bytes: &'a mut [u8]) -> Result<Image<'a>, Door> {
         match <&mut [u8; IMAGE_BYTES]>::try_from(bytes) {
-            Ok(bytes) => Ok(Image { bytes }),
+            Ok(bytes) => Ok(Image { bytes, notes: None }),
             Err(_) => Err(Door::ImageSize),
         }
     }
@@ -29,6 +31,9 @@ impl<'a> Image<'a> {
         match locate(place) {
             Some((byte, shift)) => {
                 self.bytes[byte] = self.bytes[byte] & !(DIGIT << shift) | value << shift;
+                if let Some(notes) = &mut self.notes {
+                    notes.push(place);
+                }
                 true
             }
             None => false,

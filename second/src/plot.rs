@@ -5,7 +5,7 @@ use std::fmt;
 use crate::answer::{Answer, Door};
 use crate::image::IMAGE_BYTES;
 use crate::machine::fresh;
-use crate::run::run_noting;
+use crate::run::{run, run_noting};
 use crate::unit::Place;
 
 /// The most bytes a file may have.
@@ -27,26 +27,12 @@ pub struct Line {
 
 /// Runs a fresh machine on the file that the bytes spell.
 pub fn plot(bytes: &[u8]) -> Line {
-    plot_noting(bytes, |_| ())
-}
-
-/// The pixels that this run stores, one for each store, in the order of the stores.
-pub fn stored(bytes: &[u8]) -> Vec<Place> {
-    let mut places = Vec::new();
-    plot_noting(bytes, |place| places.push(place));
-    places
-}
-
-fn plot_noting(bytes: &[u8], note: impl FnMut(Place)) -> Line {
-    if bytes.len() % 2 == 1 || bytes.len() > INPUT_LIMIT {
-        return Line::refused(Door::PlotInput);
-    }
-    let words: Vec<u16> = bytes
-        .chunks_exact(2)
-        .map(|pair| u16::from_le_bytes([pair[0], pair[1]]))
-        .collect();
+    let words = match words(bytes) {
+        Ok(words) => words,
+        Err(door) => return Line::refused(door),
+    };
     let mut image = vec![0; IMAGE_BYTES];
-    let outcome = run_noting(&words, fresh(), &mut image, BUDGET, note);
+    let outcome = run(&words, fresh(), &mut image, BUDGET);
     if let Answer::Refused(door) = outcome.answer {
         return Line::refused(door);
     }
@@ -59,6 +45,26 @@ fn plot_noting(bytes: &[u8], note: impl FnMut(Place)) -> Line {
         x: outcome.machine.x.0,
         y: outcome.machine.y.0,
     }
+}
+
+/// The pixels that this run stores, one for each store, in the order of the stores.
+pub fn stored(bytes: &[u8]) -> Vec<Place> {
+    let mut places = Vec::new();
+    if let Ok(words) = words(bytes) {
+        let mut image = vec![0; IMAGE_BYTES];
+        run_noting(&words, fresh(), &mut image, BUDGET, Some(&mut places));
+    }
+    places
+}
+
+fn words(bytes: &[u8]) -> Result<Vec<u16>, Door> {
+    if bytes.len() % 2 == 1 || bytes.len() > INPUT_LIMIT {
+        return Err(Door::PlotInput);
+    }
+    let pairs = bytes.chunks_exact(2);
+    Ok(pairs
+        .map(|pair| u16::from_le_bytes([pair[0], pair[1]]))
+        .collect())
 }
 
 impl Line {

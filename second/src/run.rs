@@ -25,19 +25,22 @@ pub struct Outcome {
 
 /// Carries out instructions until the budget is used up or the machine no longer runs.
 pub fn run(words: &[u16], machine: Machine, image: &mut [u8], budget: u64) -> Outcome {
-    run_noting(words, machine, image, budget, |_| ())
+    run_noting(words, machine, image, budget, None)
 }
 
-/// As `run`; and each store is noted when it is made, by its pixel.
-pub fn run_noting(
-    words: &[u16],
+/// As `run`; and the pixel of each store is added to the notes, if there are any.
+pub fn run_noting<'a>(
+    words: &'a [u16],
     machine: Machine,
-    image: &mut [u8],
+    image: &'a mut [u8],
     budget: u64,
-    note: impl FnMut(Place),
+    notes: Option<&'a mut Vec<Place>>,
 ) -> Outcome {
     match admit(words, machine, image, budget) {
-        Ok((file, state, image)) => repeat(&file, state, image, budget, note),
+        Ok((file, state, mut image)) => {
+            image.notes = notes;
+            repeat(&file, state, image, budget)
+        }
         Err(door) => Outcome {
             answer: Answer::Refused(door),
             steps: 0,
@@ -72,20 +75,14 @@ fn admit<'a>(
     Ok((file, state, image))
 }
 
-fn repeat(
-    file: &File,
-    mut state: State,
-    mut image: Image,
-    budget: u64,
-    mut note: impl FnMut(Place),
-) -> Outcome {
+fn repeat(file: &File, mut state: State, mut image: Image, budget: u64) -> Outcome {
     let (mut steps, mut words, mut stores) = (0, 0, 0);
     while steps < budget && state.status == Status::Running {
         match prepare(file, state) {
             Ok(step) => {
                 steps += 1;
                 words += u64::from(step.words);
-                stores += draw(&step, &mut image, &mut note);
+                stores += draw(&step, &mut image);
                 state = step.state;
             }
             Err(fault) => state.status = Status::Faulted(fault),
@@ -203,22 +200,17 @@ fn lighted(lit: bool, item: Item) -> Option<Item> {
     }
 }
 
-/// Stores a step's item, notes the stores and counts them.
-fn draw(step: &Step, image: &mut Image, note: &mut impl FnMut(Place)) -> u64 {
+/// Stores a step's item and counts the stores.
+fn draw(step: &Step, image: &mut Image) -> u64 {
     if !step.state.write {
         return 0;
     }
     let value = step.state.value;
-    let mut store = |place| {
-        let stored = image.store(place, value);
-        if stored {
-            note(place);
-        }
-        u64::from(stored)
-    };
     match step.item {
         None => 0,
-        Some(Item::Point(at)) => store(at.place()),
-        Some(Item::Vector(from, to)) => vector::pixels(from.place(), to.place()).map(store).sum(),
+        Some(Item::Point(at)) => u64::from(image.store(at.place(), value)),
+        Some(Item::Vector(from, to)) => vector::pixels(from.place(), to.place())
+            .map(|place| u64::from(image.store(place, value)))
+            .sum(),
     }
 }

@@ -180,10 +180,9 @@ fn stores_are_noted_in_their_order() {
         0o041002, 0o061102, 0o114000, 0o040004, 0o000002, 0o104000, 0o064000,
     ]);
     let mut image = blank();
-    let mut noted = Vec::new();
-    let outcome = run_noting(&words, machine_at(0, 0, 1), &mut image, 6, |place| {
-        noted.push((place.x.0, place.y.0));
-    });
+    let mut notes = Vec::new();
+    let outcome = run_noting(&words, machine_at(0, 0, 1), &mut image, 6, Some(&mut notes));
+    let noted: Vec<_> = notes.iter().map(|place| (place.x.0, place.y.0)).collect();
     let there = [(0, 0), (1, 1), (2, 1)];
     let back = [(2, 1), (1, 1), (0, 0)];
     let beyond = [(2, 1), (1, 1), (0, 1)];
