@@ -8,13 +8,7 @@ use definition::Read;
 use definition::Units;
 use table::Tally;
 use table::row;
-
-fn signed_row(t: Tally, name: &[u8], got: i32, expected: i32) -> Tally {
-    table::case(name);
-    table::number(got < 0, text::size(Units(got)));
-    table::number(expected < 0, text::size(Units(expected)));
-    table::counted(t, got == expected)
-}
+use table::signed_row;
 
 // ---- files, machines, runs, pixels
 // A file of one segment, of two words.

@@ -13,13 +13,13 @@ fn fill(column: usize) {
     }
 }
 
-pub fn case(name: &[u8]) {
+fn case(name: &[u8]) {
     io::write_all(STDOUT_FILENO, name);
     fill(name.len());
 }
 
 // Ten columns and a sign, the number to the right.
-pub fn number(minus: bool, size: u64) {
+fn number(minus: bool, size: u64) {
     let mut text = [0u8; 20];
     let n = io::decimal(size, &mut text);
     fill(std::num::wrapping_add_usize(26, n));
@@ -31,8 +31,22 @@ pub fn number(minus: bool, size: u64) {
     io::write_all(STDOUT_FILENO, &text[..n]);
 }
 
+// A signed number counted from the lowest one.
+fn raised(n: i32) -> u32 {
+    (n as i64 + 2147483648) as u32
+}
+
+fn signed(n: i32) {
+    let r = raised(n);
+    if r < 2147483648 {
+        number(true, (2147483648 - r) as u64);
+    } else {
+        number(false, (r - 2147483648) as u64);
+    }
+}
+
 // Ends a line, and counts it.
-pub fn counted(t: Tally, same: bool) -> Tally {
+fn counted(t: Tally, same: bool) -> Tally {
     io::write_all(STDOUT_FILENO, b"\n");
     if same {
         return std::num::wrapping_add_u32(t, 1);
@@ -44,6 +58,14 @@ pub fn row(t: Tally, name: &[u8], got: u32, expected: u32) -> Tally {
     case(name);
     number(false, got as u64);
     number(false, expected as u64);
+    counted(t, got == expected)
+}
+
+// Of numbers that may be below zero.
+pub fn signed_row(t: Tally, name: &[u8], got: i32, expected: i32) -> Tally {
+    case(name);
+    signed(got);
+    signed(expected);
     counted(t, got == expected)
 }
 
