@@ -5,7 +5,7 @@
 set -eu
 cd "$(dirname "$0")/.."
 seed=${SEED:-$(date +%s)}
-count=300
+count=250
 # One statement for many files, since the prover then computes once what they share; a statement for all would take too much memory.
 group=25
 

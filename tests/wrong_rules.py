@@ -283,7 +283,7 @@ def tried(rules):
         # With no rule changed the copy must be proved; else a refusal says nothing.
         ran = definition("check", where, EXAMPLES + WHOLE_IMAGES)
         if ran.returncode != 0:
-            return ["NOTHING TRIED: the examples refuse the right rules\n" + ran.stdout[-2000:]]
+            sys.exit("the examples refuse the rules as they are, so that nothing is tried:\n" + ran.stdout[-2000:])
         for rule in rules:
             got = refusal(where, rule)
             if rule[0] == WRONG and got is None:
