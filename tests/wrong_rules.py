@@ -307,7 +307,10 @@ def main():
     rules = RULES + lost_fields()
     workers = min(2, os.cpu_count() or 1)
     if asked.some is not None:
-        rules = random.Random(asked.seed).sample([rule for rule in rules if rule[0] == WRONG], asked.some)
+        wrong = [rule for rule in rules if rule[0] == WRONG]
+        if not 1 <= asked.some <= len(wrong):
+            sys.exit(f"--some takes a number from 1 to {len(wrong)}")
+        rules = random.Random(asked.seed).sample(wrong, asked.some)
         print("chosen: " + "; ".join(rule[1] for rule in rules), flush=True)
         workers = 1
     with ThreadPoolExecutor(workers) as pool:

@@ -14,14 +14,12 @@ const DIGIT: u8 = 3;
 /// A lent image of the right size.
 pub(crate) struct Image<'a> {
     bytes: &'a mut [u8; IMAGE_BYTES],
-    /// Where the pixel of each store is noted, for those who ask.
-    pub(crate) notes: Option<&'a mut Vec<Place>>,
 }
 
 impl<'a> Image<'a> {
     pub(crate) fn lend(bytes: &'a mut [u8]) -> Result<Image<'a>, Door> {
         match <&mut [u8; IMAGE_BYTES]>::try_from(bytes) {
-            Ok(bytes) => Ok(Image { bytes, notes: None }),
+            Ok(bytes) => Ok(Image { bytes }),
             Err(_) => Err(Door::ImageSize),
         }
     }
@@ -31,9 +29,6 @@ impl<'a> Image<'a> {
         match locate(place) {
             Some((byte, shift)) => {
                 self.bytes[byte] = self.bytes[byte] & !(DIGIT << shift) | value << shift;
-                if let Some(notes) = &mut self.notes {
-                    notes.push(place);
-                }
                 true
             }
             None => false,

@@ -5,7 +5,9 @@ use std::fmt;
 use crate::answer::{Answer, Door};
 use crate::image::IMAGE_BYTES;
 use crate::machine::fresh;
-use crate::run::{run, run_noting};
+use crate::picture::words;
+use crate::run::run;
+use crate::stores::stores;
 use crate::unit::Place;
 
 /// The most bytes a file may have.
@@ -27,10 +29,13 @@ pub struct Line {
 
 /// Runs a fresh machine on the file that the bytes spell.
 pub fn plot(bytes: &[u8]) -> Line {
-    let words = match words(bytes) {
-        Ok(words) => words,
-        Err(door) => return Line::refused(door),
-    };
+    if bytes.len() % 2 == 1 || bytes.len() > INPUT_LIMIT {
+        return Line::refused(Door::PlotInput);
+    }
+    let words: Vec<u16> = bytes
+        .chunks_exact(2)
+        .map(|pair| u16::from_le_bytes([pair[0], pair[1]]))
+        .collect();
     let mut image = vec![0; IMAGE_BYTES];
     let outcome = run(&words, fresh(), &mut image, BUDGET);
     if let Answer::Refused(door) = outcome.answer {
@@ -49,22 +54,10 @@ pub fn plot(bytes: &[u8]) -> Line {
 
 /// The pixels that this run stores, one for each store, in the order of the stores.
 pub fn stored(bytes: &[u8]) -> Vec<Place> {
-    let mut places = Vec::new();
-    if let Ok(words) = words(bytes) {
-        let mut image = vec![0; IMAGE_BYTES];
-        run_noting(&words, fresh(), &mut image, BUDGET, Some(&mut places));
+    match words(bytes) {
+        Some(words) => stores(&words, fresh(), BUDGET),
+        None => Vec::new(),
     }
-    places
-}
-
-fn words(bytes: &[u8]) -> Result<Vec<u16>, Door> {
-    if bytes.len() % 2 == 1 || bytes.len() > INPUT_LIMIT {
-        return Err(Door::PlotInput);
-    }
-    let pairs = bytes.chunks_exact(2);
-    Ok(pairs
-        .map(|pair| u16::from_le_bytes([pair[0], pair[1]]))
-        .collect())
 }
 
 impl Line {

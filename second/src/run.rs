@@ -4,7 +4,7 @@ use crate::answer::{Answer, Door, Fault};
 use crate::file::File;
 use crate::image::Image;
 use crate::machine::{Machine, State, Status};
-use crate::unit::{Place, Position, Unit};
+use crate::unit::{Position, Unit};
 use crate::vector;
 use crate::word::{self, First, Instruction};
 
@@ -25,22 +25,8 @@ pub struct Outcome {
 
 /// Carries out instructions until the budget is used up or the machine no longer runs.
 pub fn run(words: &[u16], machine: Machine, image: &mut [u8], budget: u64) -> Outcome {
-    run_noting(words, machine, image, budget, None)
-}
-
-/// As `run`; and the pixel of each store is added to the notes, if there are any.
-pub fn run_noting<'a>(
-    words: &'a [u16],
-    machine: Machine,
-    image: &'a mut [u8],
-    budget: u64,
-    notes: Option<&'a mut Vec<Place>>,
-) -> Outcome {
     match admit(words, machine, image, budget) {
-        Ok((file, state, mut image)) => {
-            image.notes = notes;
-            repeat(&file, state, image, budget)
-        }
+        Ok((file, state, image)) => repeat(&file, state, image, budget),
         Err(door) => Outcome {
             answer: Answer::Refused(door),
             steps: 0,

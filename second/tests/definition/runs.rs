@@ -1,6 +1,6 @@
 //! Runs as repeated steps: budgets, counts, and what may not matter.
 
-use second::{fresh, run, run_noting, start, step, Machine};
+use second::{fresh, run, start, step, stores, Machine};
 
 use crate::support::*;
 
@@ -172,20 +172,55 @@ fn a_start_at_an_odd_address_is_refused_by_the_fetch() {
     assert_eq!((outcome.answer.number(), outcome.machine.counter), (21, 3));
 }
 
-/// A lit vector, the same one back, and a point that stands there already: every store is noted,
-/// in the order of the stores, and what lies beyond the field is not.
+/// A lit vector, the same one back, a point that stands there already, and a vector out of the field.
 #[test]
-fn stores_are_noted_in_their_order() {
+fn stores_are_listed_in_their_order() {
     let words = file(&[
         0o041002, 0o061102, 0o114000, 0o040004, 0o000002, 0o104000, 0o064000,
     ]);
-    let mut image = blank();
-    let mut notes = Vec::new();
-    let outcome = run_noting(&words, machine_at(0, 0, 1), &mut image, 6, Some(&mut notes));
-    let noted: Vec<_> = notes.iter().map(|place| (place.x.0, place.y.0)).collect();
+    let listed: Vec<_> = stores(&words, machine_at(0, 0, 1), 6)
+        .iter()
+        .map(|place| (place.x.0, place.y.0))
+        .collect();
     let there = [(0, 0), (1, 1), (2, 1)];
     let back = [(2, 1), (1, 1), (0, 0)];
-    let beyond = [(2, 1), (1, 1), (0, 1)];
-    assert_eq!(noted, [&there[..], &back, &[(2, 1)], &beyond].concat());
-    assert_eq!(outcome.stores, noted.len() as u64);
+    let out = [(2, 1), (1, 1), (0, 1)];
+    assert_eq!(listed, [&there[..], &back, &[(2, 1)], &out].concat());
+}
+
+/// With one pixel value throughout, the picture is the set of the pixels that are stored.
+#[test]
+fn the_listed_stores_make_the_picture_of_the_run() {
+    let mut random = Random::new(0x5eed_0009);
+    let mut total = 0;
+    for _ in 0..300 {
+        let mode = random.between(1, 6);
+        let mut segment: Vec<u16> = (0..30).map(|_| random.word() & 0o77777).collect();
+        // Another mode after half of the words, and no pixel value.
+        segment[15] = 0o100000 | random.between(1, 6) as u16 * 0o4000;
+        let machine = Machine {
+            increment: random.between(0, 63) as u8,
+            ..machine_at(
+                random.between(0, 1_023),
+                random.between(0, 1_023),
+                mode as u8,
+            )
+        };
+        let words = file(&segment);
+        let mut image = blank();
+        let outcome = run(&words, machine, &mut image, 60);
+        let listed = stores(&words, machine, 60);
+        assert_eq!(listed.len() as u64, outcome.stores);
+        let mut pixels: Vec<_> = listed
+            .iter()
+            .map(|place| (place.x.0, place.y.0, 3))
+            .collect();
+        let mut lit = shown(&image);
+        pixels.sort_unstable();
+        pixels.dedup();
+        lit.sort_unstable();
+        assert_eq!(lit, pixels);
+        total += listed.len();
+    }
+    assert!(total > 10_000, "{} stores", total);
 }
