@@ -30,7 +30,9 @@ fn explain(answer: u8) {
         15 => turned_away(
             b"15: a segment starts in the header, has more than 4,096 words or ends past the file",
         ),
-        19 => turned_away(b"19: the input ends in the middle of a word, or is longer than 65,536 bytes"),
+        19 => turned_away(
+            b"19: the input ends in the middle of a word, or is longer than 65,536 bytes",
+        ),
         21 => refused(b"21: a word was to come from an odd address"),
         22 => refused(b"22: a word was to come from a segment that the file does not have"),
         23 => refused(b"23: a word was to come from past the end of its segment"),
