@@ -78,7 +78,7 @@ text::size opens 1
 text::put_signed opens 1
 replay::write_signed Units 1
 # cases of second/, and what came out, as bytes: each number is of the kind that the case has there
-parts::units_case Pixels 1 Units 5 opens 4
+parts::units_case Units 5 opens 4
 parts::image_case Pixels 2
 parts::word_case opens 2
 parts::pixels_of Pixels 1

@@ -7,7 +7,7 @@
 //! 1 units: 1 minus; 2 size, 16 bits; 4 X i; 8 Y i; 12 move i.
 //!   Record of 24: 0 pixels of X i; 4 and 8 pixel of (X, Y) i; 12 size with its sign i;
 //!   16 X after the move i, 20 is 1, or both 0 where it is out of range;
-//!   21 is 1 where Y as a pixel is an index below 512, and then 22 the index, 16 bits.
+//!   21 is 1 where the pixel of Y is an index below 512, and then 22 the index, 16 bits.
 //! 2 image: 1 what to do: 0 read, 1 store, 2 plot, 3 clear; 2 value;
 //!   4 column, 6 row, 16 bits each, to read and store; 8 X i, 12 Y i, to plot.
 //!   Record of 4: the digit that was read, or the number of stores that a plot counts.
@@ -243,7 +243,7 @@ fn units_case(parts: &mut Parts, x: i32, y: i32, by: i32, minus: bool, size: u16
     let row = Position { y: Unit(0), ..at };
     let moved = row.moved(Unit(by.into()), Unit(0));
     let index = locate(Place {
-        x: Pixel(y.into()),
+        x: at.place().y,
         y: Pixel(0),
     });
     let mut record = Bytes::default()

@@ -43,7 +43,7 @@ fn units_case(head: &[u8]) -> bool {
         &mut record,
         units::moved_to(Units(x), Units(records::signed_at(head, 12))),
     );
-    accounts::put_index(&mut record, units::index_in(512, Pixels(y)));
+    accounts::put_index(&mut record, units::index_in(512, p.y));
     io::write_all(STDOUT_FILENO, &record)
 }
 
