@@ -1,5 +1,5 @@
 #!/bin/sh
-# Units and pixels are two kinds: a program that passes one for the other does not compile, and one function alone leads from units to pixels.
+# Units are one kind and pixels another: a program that passes one for the other does not compile, and one function alone leads from units to pixels.
 # A bare number has no kind, so that every function which makes a kind of one, or opens a kind, stands on a list here with its reason.
 set -eu
 cd "$(dirname "$0")/.."

@@ -63,7 +63,7 @@ fn file(random: &mut Random) -> Vec<u8> {
     }
 }
 
-/// Vectors of any length from a point of the field, drawn until the budget is used or one of them
+/// Vectors of any length from a point of the field, drawn until there is no budget left or one of them
 /// leaves the range.
 fn picture(random: &mut Random) -> Vec<u16> {
     let mode = random.pick(&[SHORT_VECTOR, LONG_VECTOR]);

@@ -23,10 +23,11 @@ use Rattle.definition.specs.declared.Instruction.{Instruction}
 use Rattle.definition.specs.declared.Instruction.the-variants.{Draws}
 use Rattle.definition.proofs.StepLaws.{on, run-turn}
 use Rattle.demands.specs.Conditions.{InRange, Fits, word, more, Continues}
-use Rattle.demands.specs.Strokes.{VectorBy, ShortWord, LongWords, VectorWords, negated, Turned}
+use Rattle.demands.specs.Strokes.{ShortWord, LongWords, VectorWords, negated, Turned}
 use Rattle.demands.proofs.Kept.{step-fits}
 use Rattle.demands.proofs.StepAnswers.{refused-0}
 use Rattle.demands.proofs.MovesOut.{short, longer, one-word, two-words, not-paired}
+use Rattle.demands.proofs.Backwards.{VectorBy}
 use Rattle.demands.proofs.Backwards as back
 
 -- ---- signs turned

@@ -3,7 +3,7 @@ use Prim.Native.Nat.{ℕ}
 use mathlib.Core.Bool.{Bool, true, false}
 use mathlib.Core.List.{List, [], reverse}
 use mathlib.Core.Path.{_≡_, refl, sym, ap, subst, _∙_}
-use mathlib.Core.Logic.{⊎-elim}
+use mathlib.Core.Logic.{_⊎_, ⊎-elim}
 use lib.ListN.{length}
 use lib.IntN.{negℤ, _+ℤ_}
 use Rattle.whole.specs.Parts.{whole, add, neg}
@@ -24,11 +24,15 @@ use Rattle.definition.proofs.StepLaws.{step-done}
 use Rattle.definition.proofs.StoreLaws.{inside-reverse, stores-reverse}
 use Rattle.demands.specs.Conditions.{Fits, more}
 use Rattle.demands.specs.Graphs.{shown}
-use Rattle.demands.specs.Strokes.{VectorBy, negated}
+use Rattle.demands.specs.Strokes.{negated}
 use Rattle.demands.proofs.Kept.{pen-low}
 use Rattle.demands.proofs.Members.{in-reverse}
 use Rattle.demands.proofs.OnePen.{stores-again}
 use Rattle.demands.proofs.Vectors.{vector-turned}
+
+-- a lit vector by (dx, dy) is the instruction at the machine's counter, short or long
+abbrev pub VectorBy : Given → Machine → Units → Units → Type 0
+VectorBy g m dx dy = (instruction g m ≡ Draws true (ShortVector dx dy)) ⊎ ((instruction g m ≡ Draws true (LongVector dx)) × (long (more g m) ≡ dy))
 
 -- ---- one vector
 module _ (g : Given) (m : Machine) (dx dy : Units) (free : refusal g m ≡ 0) (is : VectorBy g m dx dy) where

@@ -1,16 +1,11 @@
 -- No drift: where a coordinate was last set, or began, and the sum of what moved it after that.
-use Prim.Native.Nat.{ℕ, zero, suc, _+_}
-use mathlib.Core.Bool.{Bool, true, false}
+use Prim.Native.Nat.{ℕ, _+_}
 use mathlib.Core.List.{List, [], _∷_}
-use mathlib.Core.Path.{_≡_, refl, sym, ap, _∙_}
+use mathlib.Core.Path.{_≡_, refl, ap, _∙_}
 use native.Mathlib.Omega.{arith}
-use native.Mathlib.Nat.{add-zero}
-use lib.Dec.{eqb}
 use lib.ListN.{length}
 use lib.IntN.{ℤ, pos, _+ℤ_}
-use borrow.Author.Tests.{eqb-true, eqb-false}
 use Rattle.whole.specs.Parts.{whole, add}
-use Rattle.definition.specs.Choice.{pick}
 use Rattle.definition.specs.Units.{units, moved}
 use Rattle.definition.specs.File.{wordIn}
 use Rattle.definition.specs.Step.{Change, Way, wayOf, changed, ordered, done, Given, second, instruction, refusal, step}
@@ -22,8 +17,9 @@ use Rattle.definition.specs.declared.Order.{Order}
 use Rattle.definition.specs.declared.Order.the-variants.{SetMode, Jump, NoOp, StatusA, Increment, StatusC}
 use Rattle.definition.specs.declared.Instruction.{Instruction}
 use Rattle.definition.specs.declared.Instruction.the-variants.{Does, Draws}
-use Rattle.demands.specs.Ledger.{entry, completed, orderIncrement, incrementAfter, changes, lastSetting, sumSince, settled}
-use Rattle.definition.proofs.StepLaws.{on, step-done, step-refused, run-stopped}
+use Rattle.demands.specs.Ledger.{completed, orderIncrement, incrementAfter, changes, lastSetting, sumSince, settled}
+use Rattle.definition.proofs.StepLaws.{step-done, step-refused}
+use Rattle.demands.proofs.Runs.{by-turns}
 
 from-nothing : (u : Units) → u ≡ units (u .0 +ℤ pos 0)
 from-nothing u = ap units (omega (whole, add (u .0) (pos 0)))
@@ -76,24 +72,13 @@ module _ (g : Given) (get : Machine → Units) (axis : Way → Change)
     (one : (m : Machine) (i : Instruction) (v : ℕ) → get (done m i v) ≡ changed (get m) (axis (wayOf (m .increment) i v)))
     (same : (m : Machine) → (refusal g m ≡ 0 → ⊥) → get (step g m .machine) ≡ get m) where
   steady : (b : ℕ) (s : State) → get (run g b s .machine) ≡ changedBy (get (s .machine)) (changes axis (s .machine .increment) (completed g b s))
-  unfolding run completed
-  steady zero s = refl
-  steady (suc b) s = go (eqb (s .machine .status) 0) (eqb (refusal g (s .machine)) 0) refl (steady b (on g s))
-    where
-      m : Machine
-      m = s .machine
-
-      go : (t u : Bool) → eqb (refusal g m) 0 ≡ u
-          → get (run g b (on g s) .machine) ≡ changedBy (get (on g s .machine)) (changes axis (on g s .machine .increment) (completed g b (on g s)))
-          → get (pick t (run g b (on g s)) s .machine) ≡ changedBy (get m) (changes axis (m .increment) (pick t (pick u (entry g s ∷ completed g b (on g s)) []) []))
-      go false u e ih = refl
-      go true false e ih =
-          let h = eqb-false _ _ e in
-          let st : step g m .machine .status ≡ refusal g m = rw (step-refused g m h) in
-          ap (λ (r : State). get (r .machine)) (run-stopped g b (on g s) (λ q. h (sym st ∙ q))) ∙ same m h
-      go true true e ih =
-          let d = step-done g m (eqb-true _ _ e) in
-          ih ∙ rw (d, one m (instruction g m) (wordIn (second g m)), done-increment m (instruction g m) (wordIn (second g m)))
+  steady =
+      by-turns g (λ s es r. get (r .machine) ≡ changedBy (get (s .machine)) (changes axis (s .machine .increment) es))
+      (λ s. refl)
+      (λ s h. same (s .machine) h)
+      (λ s es r z ih.
+      let m = s .machine in
+      ih ∙ rw (step-done g m z, one m (instruction g m) (wordIn (second g m)), done-increment m (instruction g m) (wordIn (second g m))))
 
   no-drift : (b : ℕ) (s : State) → get (run g b s .machine) ≡ settled (get (s .machine)) (changes axis (s .machine .increment) (completed g b s))
   no-drift b s = steady b s ∙ settles (get (s .machine)) (changes axis (s .machine .increment) (completed g b s))
@@ -108,22 +93,8 @@ module _ (g : Given) (b : ℕ) (s : State) where
 
 -- the ledger has every completed instruction: its length is the number of steps counted
 pub completed-all : (g : Given) (b : ℕ) (s : State) → run g b s .counts .steps ≡ s .counts .steps + length (completed g b s)
-unfolding run completed
-completed-all g zero s = sym (add-zero _)
-completed-all g (suc b) s = go (eqb (s .machine .status) 0) (eqb (refusal g (s .machine)) 0) refl (completed-all g b (on g s))
-  where
-    m : Machine
-    m = s .machine
-
-    go : (t u : Bool) → eqb (refusal g m) 0 ≡ u
-        → run g b (on g s) .counts .steps ≡ on g s .counts .steps + length (completed g b (on g s))
-        → pick t (run g b (on g s)) s .counts .steps ≡ s .counts .steps + length (pick t (pick u (entry g s ∷ completed g b (on g s)) []) [])
-    go false u e ih = omega arith
-    go true false e ih =
-        let h = eqb-false _ _ e in
-        let st : step g m .machine .status ≡ refusal g m = rw (step-refused g m h) in
-        let no : step g m .steps ≡ 0 = rw (step-refused g m h) in
-        ap (λ (r : State). r .counts .steps) (run-stopped g b (on g s) (λ q. h (sym st ∙ q))) ∙ omega arith
-    go true true e ih =
-        let one : step g m .steps ≡ 1 = rw (step-done g m (eqb-true _ _ e)) in
-        omega arith
+completed-all g =
+    by-turns g (λ s es r. r .counts .steps ≡ s .counts .steps + length es)
+    (λ s. omega arith)
+    (λ s h. let no : step g (s .machine) .steps ≡ 0 = rw (step-refused g (s .machine) h) in omega arith)
+    (λ s es r z ih. let one : step g (s .machine) .steps ≡ 1 = rw (step-done g (s .machine) z) in omega arith)

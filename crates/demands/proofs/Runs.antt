@@ -1,19 +1,20 @@
 -- Laws of steps and runs.
 use Prim.Native.Nat.{ℕ, zero, suc, _+_}
 use mathlib.Core.Bool.{Bool, true, false}
-use mathlib.Core.List.{List}
+use mathlib.Core.List.{List, [], _∷_}
 use mathlib.Core.Path.{_≡_, refl, sym, ap, _∙_}
 use native.Mathlib.Nat.{zero-add, suc-add, add-assoc, add-zero}
 use lib.Dec.{eqb}
-use borrow.Author.Tests.{eqb-false}
+use borrow.Author.Tests.{eqb-true, eqb-false}
 use Rattle.definition.specs.Choice.{pick}
 use Rattle.definition.specs.Image.{stores}
 use Rattle.definition.specs.Machine.{withStatus}
-use Rattle.definition.specs.Step.{Given, refusal}
+use Rattle.definition.specs.Step.{Given, refusal, step}
 use Rattle.definition.specs.Run.{nothing, summed, State, begun, after, run}
 use Rattle.definition.specs.declared.Machine.{Machine}
 use Rattle.definition.specs.declared.Counts.{Counts}
 use Rattle.definition.proofs.StepLaws.{pick-keeps, step-refused, on, run-stopped}
+use Rattle.demands.specs.Ledger.{Entry, entry, completed}
 use Rattle.demands.specs.Outcomes.{plus}
 
 -- nothing adds nothing
@@ -66,3 +67,25 @@ module _ (g : Given) where
       run-add b c (begun m im)
       ∙ ap (λ (t : Counts). run g c (record { machine = r .machine; image = r .image; counts = t })) (sym (summed-nothing (r .counts)))
       ∙ run-plus c (r .counts) (begun (r .machine) (r .image))
+
+-- ---- a run turn by turn: what holds of no turn, of a stopped machine and of a refusal, and of one more completed instruction, holds of every run with its ledger
+module _ (g : Given) (P : State → List Entry → State → Type 0)
+    (rests : (s : State) → P s [] s)
+    (refused : (s : State) → (refusal g (s .machine) ≡ 0 → ⊥) → P s [] (on g s))
+    (one-more : (s : State) (es : List Entry) (r : State) → refusal g (s .machine) ≡ 0 → P (on g s) es r → P s (entry g s ∷ es) r) where
+  pub by-turns : (b : ℕ) (s : State) → P s (completed g b s) (run g b s)
+  unfolding run completed
+  by-turns zero s = rests s
+  by-turns (suc b) s = go (eqb (s .machine .status) 0) (eqb (refusal g (s .machine)) 0) refl (by-turns b (on g s))
+    where
+      m : Machine
+      m = s .machine
+
+      go : (t u : Bool) → eqb (refusal g m) 0 ≡ u → P (on g s) (completed g b (on g s)) (run g b (on g s))
+          → P s (pick t (pick u (entry g s ∷ completed g b (on g s)) []) []) (pick t (run g b (on g s)) s)
+      go false u e ih = rests s
+      go true false e ih =
+          let h = eqb-false _ _ e in
+          let st : step g m .machine .status ≡ refusal g m = rw (step-refused g m h) in
+          rw (run-stopped g b (on g s) (λ q. h (sym st ∙ q))) (refused s h)
+      go true true e ih = one-more s (completed g b (on g s)) (run g b (on g s)) (eqb-true _ _ e) ih

@@ -9,7 +9,6 @@ use native.Mathlib.Decide.{ℕ-discrete}
 use lib.Dec.{eqb}
 use lib.ListN.{length, length-append}
 use lib.IntN.{natAbs}
-use borrow.Author.Tests.{eqb-true, eqb-false}
 use Rattle.definition.specs.Choice.{pick}
 use Rattle.definition.specs.Image.{store, stores, Left}
 use Rattle.definition.specs.File.{wordIn}
@@ -21,34 +20,12 @@ use Rattle.definition.specs.Calls.{Lent, given, runDoor, answered, runCall}
 use Rattle.definition.specs.declared.Pixel.{Pixel}
 use Rattle.definition.specs.declared.Machine.{Machine}
 use Rattle.definition.specs.declared.Ran.{Ran}
-use Rattle.definition.proofs.StepLaws.{step-keeps, on, step-done, step-refused, run-stopped}
+use Rattle.definition.proofs.StepLaws.{step-keeps, on, step-done}
 use Rattle.demands.specs.Conditions.{Open}
-use Rattle.demands.specs.Ledger.{Entry, entry, completed}
+use Rattle.demands.specs.Ledger.{completed}
 use Rattle.demands.specs.Strokes.{Stroke, strokesOf, strokesBy, strokes, drawn, stroked, ledgerWords}
-use Rattle.demands.proofs.Runs.{refused-only}
+use Rattle.demands.proofs.Runs.{refused-only, by-turns}
 use Rattle.demands.proofs.CallAnswers.{door-0, call-shut, call-open}
-
--- ---- a run turn by turn: what holds of no turn, of a stopped machine and of a refusal, and of one more completed instruction, holds of every run with its ledger
-module _ (g : Given) (P : State → List Entry → State → Type 0)
-    (rests : (s : State) → P s [] s)
-    (refused : (s : State) → (refusal g (s .machine) ≡ 0 → ⊥) → P s [] (on g s))
-    (one-more : (s : State) (es : List Entry) (r : State) → refusal g (s .machine) ≡ 0 → P (on g s) es r → P s (entry g s ∷ es) r) where
-  pub by-turns : (b : ℕ) (s : State) → P s (completed g b s) (run g b s)
-  unfolding run completed
-  by-turns zero s = rests s
-  by-turns (suc b) s = go (eqb (s .machine .status) 0) (eqb (refusal g (s .machine)) 0) refl (by-turns b (on g s))
-    where
-      m : Machine
-      m = s .machine
-
-      go : (t u : Bool) → eqb (refusal g m) 0 ≡ u → P (on g s) (completed g b (on g s)) (run g b (on g s))
-          → P s (pick t (pick u (entry g s ∷ completed g b (on g s)) []) []) (pick t (run g b (on g s)) s)
-      go false u e ih = rests s
-      go true false e ih =
-          let h = eqb-false _ _ e in
-          let st : step g m .machine .status ≡ refusal g m = rw (step-refused g m h) in
-          rw (run-stopped g b (on g s) (λ q. h (sym st ∙ q))) (refused s h)
-      go true true e ih = one-more s (completed g b (on g s)) (run g b (on g s)) (eqb-true _ _ e) ih
 
 -- ---- the strokes of a list of pixels
 module _ (m : Machine) where

@@ -21,7 +21,6 @@ use Rattle.definition.specs.declared.Units.{Units}
 use Rattle.definition.specs.declared.Pixel.{Pixel}
 use Rattle.definition.specs.declared.Machine.{Machine}
 use Rattle.definition.specs.declared.Item.{Item}
-use Rattle.definition.specs.declared.Item.the-variants.{ShortVector, LongVector}
 use Rattle.definition.specs.declared.Instruction.the-variants.{Draws}
 use Rattle.demands.specs.Conditions.{InField, On, Off, word, more}
 use Rattle.demands.specs.Exact.{exact}
@@ -127,11 +126,7 @@ pub record LitVector (g : Given) (m : Machine) : Type 0 where
   pub is-lit : On 14 (word g m)
   pub mode : (m .mode ≡ 1) ⊎ (m .mode ≡ 2)
 
--- a lit vector by (dx, dy) is the instruction at the machine's counter, short or long
-abbrev pub VectorBy : Given → Machine → Units → Units → Type 0
-VectorBy g m dx dy = (instruction g m ≡ Draws true (ShortVector dx dy)) ⊎ ((instruction g m ≡ Draws true (LongVector dx)) × (long (more g m) ≡ dy))
-
--- the same in words: one word of mode 1, or two of mode 2
+-- the words of a lit vector by (dx, dy) stand at the machine's counter: one word of mode 1, or two of mode 2
 pub record ShortWord (g : Given) (m : Machine) (dx dy : Units) : Type 0 where
   pub mode : m .mode ≡ 1
   pub fetched : numberIn (first g m) ≡ 0
