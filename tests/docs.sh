@@ -28,7 +28,7 @@ sed -nE '/^[a-z]+\/[a-z0-9]+(_[a-z0-9]+)+$/p' "$work/promised" >>"$work/edits"
 while IFS=/ read -r crate edit; do
     [ -f "crates/$crate/must-fail/$edit.edit" ] || { echo "docs/ names the edit $edit of $crate, which is not there"; failed=1; }
 done <"$work/edits"
-for crate in outcome items orders machine run doors display numbers host; do
+for crate in outcome items orders machine run doors still display numbers host; do
     for edit in crates/"$crate"/must-fail/*.edit; do
         grep -qx -e "$crate/$(basename "$edit" .edit)" "$work/promised" || { echo "docs/PROMISES.md does not name $edit"; failed=1; }
     done

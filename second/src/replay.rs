@@ -1,13 +1,14 @@
 //! Cases for the program `replay` of another implementation: any call on any machine, file and
 //! image, with the line that this one expects of each, and a table of what occurs.
 //!
-//! A case is a head of 42 bytes, which the words of a file follow, two bytes each. Numbers stand
+//! A case is a head of 64 bytes, which the words of a file follow, two bytes each. Numbers stand
 //! low byte first. A number marked `i` is signed, in 32 bits, with 2^31 added.
 //!
 //! 0 kind: 1 check, 2 fresh, 3 start, 4 step, 5 run, 6 clear, 7 read_pixel; 1 mode; 2 value;
 //! 3 write; 4 latch; 5 increment; 6 status; 7 is 0; 8 counter, 16 bits; 10 address to start at,
 //! 16 bits; 12 X i; 16 Y i; 20 budget, 32 bits; 24 and 28 X and Y of the pixel to read i;
-//! 32 length of the image, 32 bits; 36 its seed, 32 bits; 40 number of words, 16 bits.
+//! 32 length of the image, 32 bits; 36 its seed, 32 bits; 40 number of words, 16 bits; 42 to 63
+//! are 0, kept for what a case may need later.
 //!
 //! For each byte of the image a number, 0 at first, becomes 69,069 times itself and the seed, in
 //! 32 bits; the byte is its highest eight bits.
@@ -34,6 +35,9 @@ pub const USUAL_COUNT: usize = 3_000;
 
 /// A reader of the cases may be slow: none that came by chance stores more.
 const MOST_STORES: u64 = 20_000;
+
+/// The bytes of a case before its words.
+const HEAD: usize = 64;
 
 /// The most words of a segment.
 const SEGMENT: usize = 4_096;
@@ -135,6 +139,7 @@ impl Case {
         bytes.extend((self.image_length as u32).to_le_bytes());
         bytes.extend(self.image_seed.to_le_bytes());
         bytes.extend((self.file.len() as u16).to_le_bytes());
+        bytes.extend([0; HEAD - 42]);
         bytes.extend(self.file.iter().flat_map(|word| word.to_le_bytes()));
         bytes
     }
@@ -483,7 +488,7 @@ mod tests {
         let (mut at, mut cases) = (0, 0);
         while at < replay.cases.len() {
             let words = u16::from_le_bytes([replay.cases[at + 40], replay.cases[at + 41]]);
-            at += 42 + 2 * usize::from(words);
+            at += HEAD + 2 * usize::from(words);
             cases += 1;
         }
         assert_eq!(at, replay.cases.len());
@@ -515,7 +520,8 @@ mod tests {
         case.file = vec![0x1234];
         let bytes = [
             7, 255, 3, 1, 0, 0, 0, 0, 1, 2, 0, 0, 255, 255, 255, 127, 255, 255, 255, 255, 232, 3,
-            0, 0, 0, 0, 0, 0, 5, 0, 0, 128, 0, 0, 1, 0, 13, 12, 11, 10, 1, 0, 0x34, 0x12,
+            0, 0, 0, 0, 0, 0, 5, 0, 0, 128, 0, 0, 1, 0, 13, 12, 11, 10, 1, 0, 0, 0, 0, 0, 0, 0, 0, 0, 0,
+            0, 0, 0, 0, 0, 0, 0, 0, 0, 0, 0, 0, 0, 0x34, 0x12,
         ];
         assert_eq!(case.bytes(), bytes);
     }

@@ -2,12 +2,13 @@
 use Prim.Native.Nat.{ℕ, _<_}
 use mathlib.Core.Bool.{Bool, true, false, _||_}
 use mathlib.Core.List.{List, [], _∷_, _++_}
-use mathlib.Core.Path.{_≡_, refl, sym}
+use mathlib.Core.Path.{_≡_, refl, sym, ap, _∙_}
 use mathlib.Core.Logic.{_⊎_, inl, inr, ⊎-elim, _↔_}
 use native.Mathlib.Omega.{arith}
+use native.Mathlib.Decide.{ℕ-discrete}
 use lib.Dec.{eqb}
 use borrow.Author.Tests.{eqb-true, eqb-false}
-use Rattle.definition.specs.Choice.{pick, Test, firstOf}
+use Rattle.definition.specs.Choice.{pick, Test, firstOf, onlyIf}
 
 -- a test of this number is in the list
 abbrev pub names : ℕ → List Test → Bool
@@ -102,3 +103,39 @@ stops (t ∷ ts) us h = go (t .holds) h (stops ts us)
         → pick b (t .number) (firstOf (ts ++ us)) ≡ pick b (t .number) (firstOf ts)
     go true h g = refl
     go false h g = g h
+
+-- ---- groups of tests: which of two, one after the other, answers n
+module _ (n : ℕ) (ts us : List Test) (e : names 0 ts ≡ false) where
+  -- the first does, or it passes and the second does
+  pub in-either : 0 < n → (firstOf (ts ++ us) ≡ n) ↔ ((firstOf ts ≡ n) ⊎ ((firstOf ts ≡ 0) × (firstOf us ≡ n)))
+  in-either p = go (ℕ-discrete (firstOf ts) 0)
+    where
+      go : Dec (firstOf ts ≡ 0) → (firstOf (ts ++ us) ≡ n) ↔ ((firstOf ts ≡ n) ⊎ ((firstOf ts ≡ 0) × (firstOf us ≡ n)))
+      go (yes z) = let q = passes ts us e z in (λ a. inr (z, sym q ∙ a), ⊎-elim (λ a. absurd (omega arith)) (λ w. q ∙ w .1))
+      go (no h) = let q = stops ts us h in (λ a. inl (sym q ∙ a), ⊎-elim (λ a. q ∙ a) (λ w. absurd (h (w .0))))
+
+  -- where n is no number of the first, the second does
+  pub in-later : names n ts ≡ false → (firstOf (ts ++ us) ≡ n) ↔ ((firstOf ts ≡ 0) × (firstOf us ≡ n))
+  in-later k = go (ℕ-discrete (firstOf ts) 0)
+    where
+      not-first : (firstOf ts ≡ 0 → ⊥) → firstOf ts ≡ n → ⊥
+      not-first h q = absent n ts (some n (λ z. h (q ∙ z))) k q
+        where
+          some : (n : ℕ) → (n ≡ 0 → ⊥) → 0 < n
+          some n h = omega arith
+
+      go : Dec (firstOf ts ≡ 0) → (firstOf (ts ++ us) ≡ n) ↔ ((firstOf ts ≡ 0) × (firstOf us ≡ n))
+      go (yes z) = let q = passes ts us e z in (λ a. (z, sym q ∙ a), λ w. q ∙ w .1)
+      go (no h) = let q = stops ts us h in (λ a. absurd (not-first h (sym q ∙ a)), λ w. absurd (h (w .0)))
+
+  -- where it is no number of the second, the first does
+  pub in-first : 0 < n → names n us ≡ false → (firstOf (ts ++ us) ≡ n) ↔ (firstOf ts ≡ n)
+  in-first p k = (λ a. ⊎-elim (λ q. q) (λ w. absurd (absent n us p k (w .1))) (in-either p .0 a), λ q. in-either p .1 (inl q))
+
+-- a group that is asked only where t holds
+pub asked-if : (t : Bool) (ts : List Test) → firstOf (onlyIf t ts) ≡ pick t (firstOf ts) 0
+unfolding firstOf
+asked-if true [] = refl
+asked-if true (t ∷ ts) = ap (pick (t .holds) (t .number)) (asked-if true ts)
+asked-if false [] = refl
+asked-if false (t ∷ ts) = asked-if false ts

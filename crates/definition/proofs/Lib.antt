@@ -6,6 +6,7 @@ pub mod Runs
 pub mod Numbers
 pub mod Exactly
 pub mod Plain
+pub mod Tables
 pub mod VectorLaws
 pub mod Digits
 pub mod StoreLaws

@@ -11,6 +11,7 @@ use Rattle.whole.specs.Parts.{le-yes, le-goal, lt-yes, lt-goal, ≤-fact, ≤-g
 use Rattle.definition.proofs.Exactly.{apart}
 
 infixr 5 _and_
+infixr 5 _nor_
 infixr 4 _or_
 infixl 3 _so_
 pub _so_ : {A B C : Type 0} → A ↔ B → B ↔ C → A ↔ C
@@ -91,3 +92,10 @@ unless {s = false} {t = t} = (λ e q. absurd (apart (sym q)), λ h. refl)
 
 pub over : {A B C : Type 0} → (A × (B ⊎ C)) ↔ ((A × B) ⊎ (A × C))
 over = (λ w. ⊎-elim (λ b. inl (w .0, b)) (λ c. inr (w .0, c)) (w .1), ⊎-elim (λ w. (w .0, inl (w .1))) (λ w. (w .0, inr (w .1))))
+
+-- none of several: a test that fails, and those after it; and the last of them
+pub _nor_ : {t : Bool} {A B R : Type 0} → (t ≡ true) ↔ A → R ↔ (B → ⊥) → ((t ≡ false) × R) ↔ ((A ⊎ B) → ⊥)
+p nor q = (λ w. ⊎-elim (never p .0 (failing .0 (w .0))) (q .0 (w .1)), λ h. (failing .1 (never p .1 (λ a. h (inl a))), q .1 (λ b. h (inr b))))
+
+pub last : {t : Bool} {A : Type 0} → (t ≡ true) ↔ A → ((t ≡ false) × Unit {0}) ↔ (A → ⊥)
+last p = (λ w. never p .0 (failing .0 (w .0)), λ h. (failing .1 (never p .1 h), tt))

@@ -1,27 +1,29 @@
 -- Laws of a step and of a run's next turn: an instruction completes or is refused, what it is refused for, and that every field of the machine stays in its range.
 use Prim.Native.Nat.{ℕ, zero, suc, _≤_, _<_}
-use mathlib.Core.Bool.{Bool, true, false, _&&_, _||_}
+use mathlib.Core.Bool.{Bool, true, false, _&&_}
 use mathlib.Core.List.{List, [], _∷_}
 use mathlib.Core.Path.{_≡_, refl}
-use mathlib.Core.Logic.{_⊎_, inl, inr, _↔_}
+use mathlib.Core.Logic.{inr, _↔_}
 use native.Mathlib.Omega.{arith}
-use lib.Dec.{eqb, leb}
-use borrow.Author.Tests.{eq-eqb, ne-eqb, eqb-true, le-leb}
-use Rattle.definition.specs.Choice.{pick, within, Test, firstOf}
+use lib.Dec.{eqb}
+use borrow.Author.Tests.{eq-eqb, ne-eqb, eqb-true}
+use Rattle.definition.specs.Choice.{pick, among, Test, firstOf}
 use Rattle.definition.specs.File.{wordIn, fetchRefusals}
 use Rattle.definition.specs.Words.{none, bit, code, setsMode, order, decode, firstRefusals, secondRefusals}
-use Rattle.definition.specs.Machine.{inRange, isMode, isStatus, ranged}
+use Rattle.definition.specs.Machine.{inRange, isMode, refusalNumbers, statuses, isStatus, ranged}
 use Rattle.definition.specs.Step.{Change, wayOf, changed, leaves, ordered, done, Given, first, second, instruction, wayRefusals, refusals, refusal, Step, completes, refuses, step}
 use Rattle.definition.specs.Step.Change.{Stay, Set, Move}
 use Rattle.definition.specs.Run.{State, after, run}
 use Rattle.definition.specs.declared.Units.{Units}
 use Rattle.definition.specs.declared.Machine.{Machine}
+use Rattle.definition.specs.declared.Fetched.{Fetched}
 use Rattle.definition.specs.declared.Order.{Order}
 use Rattle.definition.specs.declared.Order.the-variants.{SetMode, Jump, NoOp, StatusA, Increment, StatusC}
 use Rattle.definition.specs.declared.Instruction.{Instruction}
 use Rattle.definition.specs.declared.Instruction.the-variants.{Does, Draws}
-use Rattle.definition.proofs.Exactly.{Fails, fails}
-use Rattle.definition.proofs.Plain.{_so_, _and_, _or_, itself, is-less, is-most, is-equal, not-false, both-true, either-true, either-false}
+use Rattle.definition.proofs.Exactly.{names, Fails, fails}
+use Rattle.definition.proofs.Tables.{all-of, in-both}
+use Rattle.definition.proofs.Plain.{_so_, _and_, itself, is-less, is-most, not-false, both-true, either-true, either-false}
 
 pub pick-keeps : {A : Type 0} (P : A → Type 0) (t : Bool) {a b : A} → (t ≡ true → P a) → (t ≡ false → P b) → P (pick t a b)
 pick-keeps P true p q = p refl
@@ -65,12 +67,15 @@ unfolding firstOf
 first-is is [] z e = z
 first-is is (t ∷ ts) z e = let w = both-true .0 e in pick-keeps (λ (n : ℕ). is n ≡ true) (t .holds) (λ h. w .0) (λ h. first-is is ts z (w .1))
 
--- 0, or a number from 21 to 27
-pub refusal-is : (g : Given) (m : Machine) → (refusal g m ≡ 0) ⊎ ((21 ≤ refusal g m) × (refusal g m ≤ 27))
+-- 0, or a number of the table
+pub refusal-is : (g : Given) (m : Machine) → among (refusal g m) (0 ∷ refusalNumbers) ≡ true
 unfolding refusal refusals fetchRefusals firstRefusals secondRefusals wayRefusals
-refusal-is g m =
-    (either-true so is-equal or (both-true so is-most and is-most)) .0
-    (first-is (λ n. eqb n 0 || within 21 27 n) (refusals m (first g m) (instruction g m) (second g m)) refl refl)
+refusal-is g m = first-is (λ n. among n (0 ∷ refusalNumbers)) (refusals m (first g m) (instruction g m) (second g m)) refl refl
+
+-- and the table has no other: each of its numbers is that of a test
+pub refusals-all : (m : Machine) (got : Fetched) (i : Instruction) (more : Fetched) → all-of (λ n. names n (refusals m got i more)) refusalNumbers ≡ true
+unfolding refusals fetchRefusals firstRefusals secondRefusals wayRefusals
+refusals-all m got i more = refl
 
 -- an instruction that is not refused passes each test of its number
 pub free : (g : Given) (m : Machine) (n : ℕ) → refusal g m ≡ 0 → Fails n (refusals m (first g m) (instruction g m) (second g m))
@@ -159,10 +164,9 @@ done-in m (Draws lit it) v r p q f =
     let w = wayOf (m .increment) (Draws lit it) v in
     record { x = changed-in _ (w .x) (f .x) p; y = changed-in _ (w .y) (f .y) q; mode = f .mode; value = f .value; increment = f .increment; status = f .status }
 
-refused-in : {n : ℕ} → (n ≡ 0) ⊎ ((21 ≤ n) × (n ≤ 27)) → isStatus n ≡ true
+refused-in : (g : Given) (m : Machine) → isStatus (refusal g m) ≡ true
 unfolding isStatus
-refused-in {n} (inl e) = either-true {s = leb n 2} .1 (inl (le-leb n 2 (omega arith)))
-refused-in {n} (inr h) = either-true {s = leb n 2} .1 (inr (both-true {s = leb 21 n} .1 (le-leb _ _ (h .0), le-leb _ _ (h .1))))
+refused-in g m = in-both (0 ∷ refusalNumbers) statuses (refusal g m) refl (refusal-is g m)
 
 pub step-ranged : (g : Given) (m : Machine) → ranged m ≡ true → ranged (step g m .machine) ≡ true
 unfolding refusals fetchRefusals firstRefusals secondRefusals wayRefusals
@@ -171,4 +175,4 @@ step-ranged g m e =
     ranges (step g m .machine) .1
     (step-keeps g (λ t. Ranges (t .machine)) m
     (λ z. let w = either-false .0 (free g m 27 z) in done-in m _ _ (decode-read (m .mode) _) (w .0) (w .1) f)
-    (record { x = f .x; y = f .y; mode = f .mode; value = f .value; increment = f .increment; status = refused-in (refusal-is g m) }))
+    (record { x = f .x; y = f .y; mode = f .mode; value = f .value; increment = f .increment; status = refused-in g m }))

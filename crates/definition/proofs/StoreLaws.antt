@@ -1,17 +1,17 @@
 -- Laws of stores, over any shape and any pen: a store keeps the image's length, is read back, and leaves every other pixel and byte; stores may be made in any order.
-use Prim.Native.Nat.{ℕ, _+_, _*_, _/_, _<_}
+use Prim.Native.Nat.{ℕ, _+_, _*_, _/_, _^_, _<_}
 use mathlib.Core.Bool.{Bool, true, false}
 use mathlib.Core.Path.{_≡_, refl, sym, ap, _∙_}
 use mathlib.Core.List.{List, [], _∷_, _++_, reverse, reverse-cons, append-nil}
 use native.Mathlib.Omega.{arith}
-use native.Mathlib.Nat.{div-add-mod'}
+use native.Mathlib.Nat.{mod-lt, div-add-mod'}
 use native.Mathlib.Decide.{ℕ-discrete, decLt}
 use lib.ListN.{length, getD, set, length-set}
 use lib.Seq.{getD-set-same, getD-set-other, set-out, set-set, set-comm}
 use lib.Arith.{digits-div}
 use lib.IntN.{natAbs}
 use Rattle.definition.specs.Choice.{pick}
-use Rattle.definition.specs.Image.{Shape, Pen, inField, inside, byteOf, digitOf, digit, putDigit, digitAt, store, stores}
+use Rattle.definition.specs.Image.{Shape, square, imageBytes, Pen, inField, inside, byteOf, digitOf, digit, putDigit, digitAt, store, stores}
 use Rattle.definition.specs.declared.Pixel.{Pixel}
 use Rattle.definition.proofs.Digits.{digit-same, digit-other, put-either}
 
@@ -28,6 +28,16 @@ pub stores-append : (s : Shape) (pen : Pen) (im : List ℕ) (ps qs : List Pixel)
 unfolding stores
 stores-append s pen im [] qs = refl
 stores-append s pen im (p ∷ ps) qs = stores-append s pen (store s pen im (natAbs (p .x .0)) (natAbs (p .y .0))) ps qs
+
+-- a shape whose rows and whose image have room for their pixels
+pub record Sound (s : Shape) : Type 0 where
+  pub some : 0 < s .base
+  pub row : (x : ℕ) → x < s .width → x / s .digits < s .row
+  pub room : (x y : ℕ) → x < s .width → y < s .height → byteOf s x y < imageBytes
+
+pub square-sound : Sound square
+unfolding byteOf
+square-sound = record { some = omega arith; row = λ x h. omega arith; room = λ x y h k. omega arith }
 
 -- ---- what a store leaves
 -- in reach of a row, two pixels that are the same digit of the same byte are one pixel
@@ -70,27 +80,42 @@ module _ (s : Shape) (pen : Pen) (im : List ℕ) (x y : ℕ) where
       go (yes p) (no q) = rw (set-out im (byteOf s x y) new (omega arith))
 
 -- ---- the order of stores
+-- a pen of base b: from a digit it leaves a digit
+pub record Fitting (b : ℕ) (pen : Pen) : Type 0 where
+  pub some : 0 < b
+  pub low : (v : ℕ) → v < b → pen v < b
+
+leaves-low : (b : ℕ) (pen : Pen) → Fitting b pen → (k byte : ℕ) → pen (digit b k byte) < b
+unfolding digit
+leaves-low b pen fit k byte = fit .low _ (mod-lt (byte / b ^ k) (fit .some))
+
+pub left-low : (s : Shape) (pen : Pen) → Fitting (s .base) pen → (im : List ℕ) (x y : ℕ) → pen (digitAt s im x y) < s .base
+unfolding digitAt
+left-low s pen fit im x y = leaves-low (s .base) pen fit (digitOf s x) (getD im (byteOf s x y) 0)
+
 -- a byte after a store at its digit k
 abbrev inked : ℕ → Pen → ℕ → ℕ → ℕ
 inked b pen k byte = putDigit b k byte (pen (digit b k byte))
 
 -- a byte after stores at its digits k and l, by any two pens
-apart-digits : (b : ℕ) (pen ink : Pen) → ((v : ℕ) → pen v < b) → ((v : ℕ) → ink v < b) → (k l byte : ℕ) → (k ≡ l → ⊥)
+apart-digits : (b : ℕ) (pen ink : Pen) → Fitting b pen → Fitting b ink → (k l byte : ℕ) → (k ≡ l → ⊥)
     → inked b ink l (inked b pen k byte) ≡ inked b pen k (inked b ink l byte)
-apart-digits b pen ink low low′ k l byte n =
+apart-digits b pen ink fit fit′ k l byte n =
     let v = pen (digit b k byte) in
     let w = ink (digit b l byte) in
-    ap (λ (t : ℕ). putDigit b l (inked b pen k byte) (ink t)) (digit-other b l k byte v (low _) (λ e. n (sym e)))
-    ∙ put-either b k l byte v w (low _) (low′ _) n
-    ∙ sym (ap (λ (t : ℕ). putDigit b k (inked b ink l byte) (pen t)) (digit-other b k l byte w (low′ _) n))
+    let low = leaves-low b pen fit k byte in
+    let low′ = leaves-low b ink fit′ l byte in
+    ap (λ (t : ℕ). putDigit b l (inked b pen k byte) (ink t)) (digit-other b l k byte v low (λ e. n (sym e)))
+    ∙ put-either b k l byte v w low low′ n
+    ∙ sym (ap (λ (t : ℕ). putDigit b k (inked b ink l byte) (pen t)) (digit-other b k l byte w low′ n))
 
 -- by one pen, at any digits
-either-digit : (b : ℕ) (pen : Pen) → ((v : ℕ) → pen v < b) → (k l byte : ℕ) → inked b pen l (inked b pen k byte) ≡ inked b pen k (inked b pen l byte)
-either-digit b pen low k l byte = go (ℕ-discrete k l)
+either-digit : (b : ℕ) (pen : Pen) → Fitting b pen → (k l byte : ℕ) → inked b pen l (inked b pen k byte) ≡ inked b pen k (inked b pen l byte)
+either-digit b pen fit k l byte = go (ℕ-discrete k l)
   where
     go : Dec (k ≡ l) → inked b pen l (inked b pen k byte) ≡ inked b pen k (inked b pen l byte)
     go (yes e) = rw e
-    go (no n) = apart-digits b pen pen low low k l byte n
+    go (no n) = apart-digits b pen pen fit fit k l byte n
 
 -- an image after two bytes are changed, by f and h, which may be applied in either order where the bytes are one
 either-byte : (f h : ℕ → ℕ) (im : List ℕ) (i j : ℕ) → (i ≡ j → (n : ℕ) → h (f n) ≡ f (h n))
@@ -111,19 +136,19 @@ either-byte f h im i j alike = go (ℕ-discrete i j) (decLt i (length im))
         out m n = ap (λ (t : List ℕ). set t i n) (set-out im i m (omega arith)) ∙ set-out im i n (omega arith)
 
 -- at different pixels any two stores may be made in either order
-pub apart-stores : (s : Shape) (pen ink : Pen) → ((v : ℕ) → pen v < s .base) → ((v : ℕ) → ink v < s .base) → (im : List ℕ) (x y x′ y′ : ℕ)
+pub apart-stores : (s : Shape) (pen ink : Pen) → Fitting (s .base) pen → Fitting (s .base) ink → (im : List ℕ) (x y x′ y′ : ℕ)
     → x / s .digits < s .row → x′ / s .digits < s .row → (x′ ≡ x → y′ ≡ y → ⊥) → store s ink (store s pen im x y) x′ y′ ≡ store s pen (store s ink im x′ y′) x y
 unfolding store digitAt
-apart-stores s pen ink low low′ im x y x′ y′ h h′ ne =
+apart-stores s pen ink fit fit′ im x y x′ y′ h h′ ne =
     either-byte (inked (s .base) pen (digitOf s x)) (inked (s .base) ink (digitOf s x′)) im (byteOf s x y) (byteOf s x′ y′)
-    (λ e n. apart-digits (s .base) pen ink low low′ (digitOf s x) (digitOf s x′) n (λ d. ne (one-place s x y x′ y′ h h′ (sym e) (sym d) .0) (one-place s x y x′ y′ h h′ (sym e) (sym d) .1)))
+    (λ e n. apart-digits (s .base) pen ink fit fit′ (digitOf s x) (digitOf s x′) n (λ d. ne (one-place s x y x′ y′ h h′ (sym e) (sym d) .0) (one-place s x y x′ y′ h h′ (sym e) (sym d) .1)))
 
 -- by one pen, at any pixels
-module _ (s : Shape) (pen : Pen) (low : (v : ℕ) → pen v < s .base) where
+module _ (s : Shape) (pen : Pen) (fit : Fitting (s .base) pen) where
   pub either-store : (im : List ℕ) (x y x′ y′ : ℕ) → store s pen (store s pen im x y) x′ y′ ≡ store s pen (store s pen im x′ y′) x y
   unfolding store digitAt
   either-store im x y x′ y′ =
-      either-byte (inked (s .base) pen (digitOf s x)) (inked (s .base) pen (digitOf s x′)) im (byteOf s x y) (byteOf s x′ y′) (λ e. either-digit (s .base) pen low (digitOf s x) (digitOf s x′))
+      either-byte (inked (s .base) pen (digitOf s x)) (inked (s .base) pen (digitOf s x′)) im (byteOf s x y) (byteOf s x′ y′) (λ e. either-digit (s .base) pen fit (digitOf s x) (digitOf s x′))
 
   -- a store before others or after them
   store-late : (im : List ℕ) (x y : ℕ) (ps : List Pixel) → store s pen (stores s pen im ps) x y ≡ stores s pen (store s pen im x y) ps

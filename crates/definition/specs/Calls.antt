@@ -36,6 +36,10 @@ pub record Lent : Type 0 where
 abbrev pub plain : List ℕ → Lent
 plain f = record { file = f }
 
+-- the same with another file
+abbrev pub withFile : Lent → List ℕ → Lent
+withFile l f = record { file = f }
+
 abbrev pub given : Lent → Given
 given l = record { memory = fetch (l .file) }
 
@@ -47,7 +51,11 @@ startCall m a =
     let n = firstOf (machineDoors m) in
     record { answer = n; machine = pick (eqb n 0) (startedAt m a) m }
 
--- 11, 12 to 15, 16, 17, 28
+-- what a run can be turned away with
+abbrev pub doorNumbers : List ℕ
+doorNumbers = 11 ∷ 12 ∷ 13 ∷ 14 ∷ 15 ∷ 16 ∷ 17 ∷ 28 ∷ []
+
+-- in this order; a file's are 12 to 15
 unfoldable pub runDoors : Lent → Machine → List ℕ → ℕ → List Test
 runDoors l m im b = joined (imageDoors im ∷ fileDoors (l .file) ∷ machineDoors m ∷ budgetDoors b ∷ runningDoors m ∷ [])
 
@@ -59,8 +67,11 @@ abbrev pub answered : State → Left Ran
 answered s = left (record { answer = s .machine .status; counts = s .counts; machine = s .machine }) (s .image)
 
 -- a call refused at a door counts nothing and leaves everything as given
+abbrev pub uncounted : Machine → ℕ → Ran
+uncounted m n = record { answer = n; counts = nothing; machine = m }
+
 abbrev pub turnedAway : Machine → List ℕ → ℕ → Left Ran
-turnedAway m im n = left (record { answer = n; counts = nothing; machine = m }) im
+turnedAway m im n = left (uncounted m n) im
 
 unfoldable pub runCall : Lent → Machine → List ℕ → ℕ → Left Ran
 runCall l m im b =

@@ -1,8 +1,8 @@
 -- A choice by a test, and numbered tests asked in order: every refusal of document 01 is a line of such a list.
 use Prim.Native.Nat.{ℕ}
-use mathlib.Core.Bool.{Bool, true, false, _&&_}
+use mathlib.Core.Bool.{Bool, true, false, _&&_, _||_}
 use mathlib.Core.List.{List, [], _∷_, _++_}
-use lib.Dec.{leb}
+use lib.Dec.{eqb, leb}
 
 infix 68 _when_
 abbrev pub pick {ℓ} : {A : Type ℓ} → Bool → A → A → A
@@ -12,6 +12,11 @@ pick false a b = b
 -- from a to b, both counted in
 abbrev pub within : ℕ → ℕ → ℕ → Bool
 within a b n = leb a n && leb n b
+
+-- one of a list
+abbrev pub among : ℕ → List ℕ → Bool
+among n [] = false
+among n (k ∷ ks) = eqb n k || among n ks
 
 -- a test, and the number that is answered where it holds
 pub record Test : Type 0 where

@@ -9,6 +9,7 @@ use Rattle.definition.specs.Choice.{pick}
 use Rattle.definition.specs.Units.{pixelsOf}
 use Rattle.definition.specs.declared.Units.{Units}
 use Rattle.definition.specs.declared.Pixel.{Pixel}
+use Rattle.definition.specs.declared.Ink.{Ink}
 
 pub record Shape : Type 0 where
   pub width : ℕ
@@ -66,6 +67,13 @@ digitAt s im x y = digit (s .base) (digitOf s x) (getD im (byteOf s x y) 0)
 -- a pen gives the digit that a store leaves, from the one that it finds
 abbrev pub Pen : Type 0
 Pen = ℕ → ℕ
+
+-- of an ink, the shape of the image that it is for, and its pen
+abbrev pub inkShape : Ink → Shape
+inkShape k = square
+
+abbrev pub inkPen : Ink → Pen
+inkPen k old = k .value
 
 -- a store at pixel (x, y): that digit is replaced, the rest of its byte and every other byte stay
 unfoldable pub store : Shape → Pen → List ℕ → ℕ → ℕ → List ℕ

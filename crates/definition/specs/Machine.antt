@@ -5,12 +5,13 @@ use mathlib.Core.List.{List, [], _∷_}
 use lib.Dec.{eqb, leb, ltb}
 use lib.IntN.{pos, negsuc}
 use lib.Signed.{leZ}
-use Rattle.definition.specs.Choice.{within, Test, _when_}
+use Rattle.definition.specs.Choice.{among, Test, _when_}
 use Rattle.definition.specs.Units.{units}
-use Rattle.definition.specs.Image.{Shape, square, Pen}
+use Rattle.definition.specs.Image.{Shape, Pen, inkShape, inkPen}
 use Rattle.definition.specs.Words.{none, setsMode}
 use Rattle.definition.specs.declared.Units.{Units}
 use Rattle.definition.specs.declared.Machine.{Machine}
+use Rattle.definition.specs.declared.Ink.{Ink}
 
 abbrev pub fresh : Machine
 fresh = record { counter = 0; x = units (pos 0); y = units (pos 0); mode = none; value = 3; write = true; latch = false; increment = 0; status = 0 }
@@ -49,12 +50,15 @@ abbrev pub past : ℕ → ℕ → ℕ
 past zero c = c
 past (suc words) c = past words (next c)
 
--- the shape of its image, and what its stores leave
+-- what its stores write with: the shape of its image, and what they leave
+abbrev pub inkOf : Machine → Ink
+inkOf m = record { value = m .value }
+
 abbrev pub shapeOf : Machine → Shape
-shapeOf m = square
+shapeOf m = inkShape (inkOf m)
 
 abbrev pub penOf : Machine → Pen
-penOf m old = m .value
+penOf m = inkPen (inkOf m)
 
 -- ---- the ranges
 unfoldable pub inRange : Units → Bool
@@ -63,8 +67,15 @@ inRange u = leZ (negsuc 4095) (u .0) && leZ (u .0) (pos 4095)
 unfoldable pub isMode : ℕ → Bool
 isMode k = eqb k none || setsMode k
 
+-- what an instruction can be refused for; the statuses are running, the two stops and these
+abbrev pub refusalNumbers : List ℕ
+refusalNumbers = 21 ∷ 22 ∷ 23 ∷ 24 ∷ 25 ∷ 26 ∷ 27 ∷ []
+
+abbrev pub statuses : List ℕ
+statuses = 0 ∷ 1 ∷ 2 ∷ refusalNumbers
+
 unfoldable pub isStatus : ℕ → Bool
-isStatus s = leb s 2 || within 21 27 s
+isStatus s = among s statuses
 
 -- every field is in its range; the counter and the two flags have no other values
 unfoldable pub ranged : Machine → Bool

@@ -25,6 +25,11 @@ pub struct Machine {
     pub status: u8,
 }
 
+// What a store writes with: of a machine, all that its stores depend on.
+pub struct Ink {
+    pub value: u8,
+}
+
 // Why an address gives no word.
 pub enum Unfetched {
     Odd,

@@ -25,7 +25,7 @@ use Rattle.definition.proofs.StoreLaws.{inside-reverse, stores-reverse}
 use Rattle.demands.specs.Conditions.{Fits, more}
 use Rattle.demands.specs.Graphs.{shown}
 use Rattle.demands.specs.Strokes.{negated}
-use Rattle.demands.proofs.Kept.{pen-low}
+use Rattle.demands.proofs.Kept.{pen-fits}
 use Rattle.demands.proofs.Members.{in-reverse}
 use Rattle.demands.proofs.OnePen.{stores-again}
 use Rattle.demands.proofs.Vectors.{vector-turned}
@@ -110,7 +110,7 @@ module _ (g : Given) (m : Machine) (dx dy : Units) (free : refusal g m ≡ 0) (i
   back-image f im =
       ap (λ (v : ℕ). stores (shapeOf m) (λ old. v) im (step g m′ .pixels)) (after-pen g m dx dy free is .0)
       ∙ ap (stores (shapeOf m) (penOf m) im) back-stores
-      ∙ stores-reverse (shapeOf m) (penOf m) (λ v. pen-low m f) im (step g m .pixels)
+      ∙ stores-reverse (shapeOf m) (penOf m) (pen-fits m f) im (step g m .pixels)
 
   -- and over the vector itself they change nothing
   pub back-over : Fits m → (im : List ℕ) → length im ≡ imageBytes

@@ -1,32 +1,33 @@
 -- The answers of a run at the call, each exactly when.
 use Prim.Native.Nat.{ℕ, zero, suc, _+_, _-_, _≤_, _<_}
-use mathlib.Core.Bool.{false, not, _||_}
-use mathlib.Core.List.{List}
+use mathlib.Core.Bool.{true, false, not}
+use mathlib.Core.List.{List, [], _∷_, _++_}
 use mathlib.Core.Path.{_≡_, refl, sym, ap, _∙_}
-use mathlib.Core.Logic.{_⊎_, inl, inr, ⊎-elim, _↔_}
+use mathlib.Core.Logic.{⊎-elim, _↔_}
 use native.Mathlib.Omega.{arith}
 use native.Mathlib.Nat.{add-zero}
 use native.Mathlib.Decide.{ℕ-discrete}
 use lib.Dec.{eqb, ltb}
 use lib.ListN.{length}
-use borrow.Author.Tests.{eq-eqb, ne-eqb}
-use Rattle.definition.specs.Choice.{within}
+use borrow.Author.Tests.{eq-eqb, ne-eqb, ltb-true}
+use Rattle.definition.specs.Choice.{among, Test, firstOf}
 use Rattle.definition.specs.Image.{imageBytes, Left}
-use Rattle.definition.specs.File.{tag, segments, header, keepBelow, headDoors, segmentDoors, fileDoors}
-use Rattle.definition.specs.Machine.{machineDoors}
+use Rattle.definition.specs.File.{headDoors, segmentDoors, fileDoors}
+use Rattle.definition.specs.Machine.{refusalNumbers, statuses, machineDoors}
 use Rattle.definition.specs.Step.{Given, refusal, step}
 use Rattle.definition.specs.Run.{State, begun, run}
-use Rattle.definition.specs.Calls.{imageDoors, budgetDoors, runningDoors, Lent, given, checkCall, runDoors, runDoor, answered, turnedAway, runCall}
+use Rattle.definition.specs.Calls.{imageDoors, budgetDoors, runningDoors, Lent, given, checkCall, doorNumbers, runDoors, runDoor, answered, turnedAway, runCall}
 use Rattle.definition.specs.declared.Machine.{Machine}
 use Rattle.definition.specs.declared.Ran.{Ran}
-use Rattle.definition.proofs.Exactly.{Answers, exactly, none-holds}
-use Rattle.definition.proofs.Plain.{_so_, _and_, _or_, itself, back, is-less, not-less, is-most, is-equal, not-equal, not-true, not-false, both-true, either-true, failing, never}
+use Rattle.definition.proofs.Exactly.{apart, names, exactly, none-holds, in-later, in-first}
+use Rattle.definition.proofs.Tables.{all-of, one-of, in-both, in-one}
+use Rattle.definition.proofs.Plain.{_so_, _and_, itself, is-less, not-less, is-equal, not-equal, not-true, not-false, either-true, failing, never}
 use Rattle.demands.specs.Outcomes.{refusedAfter}
-use Rattle.demands.specs.Conditions.{Accepted, Fits, Open, During}
+use Rattle.demands.specs.Conditions.{Among, Accepted, Fits, Open, During}
 use Rattle.definition.proofs.StepLaws.{on, step-done, step-refused, run-turn, run-stopped, first-is}
 use Rattle.demands.proofs.Runs.{refused-only, run-add}
-use Rattle.demands.proofs.Kept.{fits, run-fits}
-use Rattle.demands.proofs.FileAnswers.{check-exactly, check-0}
+use Rattle.demands.proofs.Kept.{is-among, fits, run-fits}
+use Rattle.demands.proofs.FileAnswers.{check-0}
 use Rattle.demands.proofs.StepAnswers.{above-two}
 
 -- ---- where a run ends
@@ -83,7 +84,7 @@ budget-used g (suc b) s q = go (ℕ-discrete (s .machine .status) 0) (ℕ-discre
         let st : step g (s .machine) .machine .status ≡ refusal g (s .machine) = rw (step-refused g (s .machine) r) in
         absurd (r (sym st ∙ sym (ap (λ (t : State). t .machine .status) (run-stopped g b (on g s) (λ e. r (sym st ∙ e)))) ∙ sym (ap (λ (t : State). t .machine .status) t) ∙ q))
 
--- ---- the doors of a run
+-- ---- the doors of a run, group by group
 module _ (l : Lent) (m : Machine) (im : List ℕ) (b : ℕ) where
   abbrev f : List ℕ
   f = l .file
@@ -91,60 +92,42 @@ module _ (l : Lent) (m : Machine) (im : List ℕ) (b : ℕ) where
   abbrev door : ℕ
   door = runDoor l m im b
 
-  door-exactly : (n : ℕ) → 0 < n → (door ≡ n) ↔ Answers n (runDoors l m im b)
-  unfolding runDoor
-  door-exactly n p = exactly n (runDoors l m im b) p
+  abbrev later : List Test
+  later = machineDoors m ++ (budgetDoors b ++ (runningDoors m ++ []))
 
-  -- the image's test and the file's tests, none of which holds
-  filed : {G H : Type 0} → G ↔ H
-      → ((not (eqb (length im) imageBytes) ≡ false) × ((ltb (length f) 2 ≡ false) × ((not (eqb (tag f) 1) ≡ false) × ((eqb (segments f) 0 || ltb 8 (segments f) ≡ false)
-      × ((ltb (length f) (header f) ≡ false) × ((not (keepBelow f (segments f)) ≡ false) × G))))))
-      ↔ ((length im ≡ imageBytes) × (Accepted f × H))
-  unfolding checkCall fileDoors headDoors segmentDoors
-  filed p =
-      (not-false so is-equal)
-      and ((
-        λ w. (check-0 f .0 (none-holds (fileDoors f) refl .1 (w .0, (w .1 .0, (w .1 .1 .0, (w .1 .1 .1 .0, (w .1 .1 .1 .1 .0, tt)))))), p .0 (w .1 .1 .1 .1 .1)),
-        λ q. let c = none-holds (fileDoors f) refl .0 (check-0 f .1 (q .0)) in (c .0, (c .1 .0, (c .1 .1 .0, (c .1 .1 .1 .0, (c .1 .1 .1 .1 .0, p .1 (q .1)))))),
-      ))
-
-  door-11 : (door ≡ 11) ↔ (length im ≡ imageBytes → ⊥)
-  unfolding runDoors imageDoors fileDoors headDoors segmentDoors machineDoors budgetDoors runningDoors
-  door-11 = door-exactly 11 (omega arith) so not-true so not-equal
+  image-passes : (firstOf (imageDoors im) ≡ 0) ↔ (length im ≡ imageBytes)
+  unfolding imageDoors
+  image-passes = none-holds (imageDoors im) refl so (not-false so is-equal) and itself so (λ w. w .0, λ h. (h, tt))
 
   -- 12 to 15 are the check's own
-  door-12 : (door ≡ 12) ↔ ((length im ≡ imageBytes) × (checkCall f ≡ 12))
-  unfolding runDoors imageDoors fileDoors headDoors segmentDoors machineDoors budgetDoors runningDoors
-  door-12 = door-exactly 12 (omega arith) so (not-false so is-equal) and back (check-exactly f 12 (omega arith))
+  at-the-file : (n : ℕ) → 0 < n → names n (imageDoors im) ≡ false → names n later ≡ false → (door ≡ n) ↔ ((length im ≡ imageBytes) × (checkCall f ≡ n))
+  unfolding runDoor runDoors checkCall imageDoors fileDoors headDoors segmentDoors
+  at-the-file n p k q = in-later n (imageDoors im) (fileDoors f ++ later) refl k so image-passes and in-first n (fileDoors f) later refl p q
 
-  door-13 : (door ≡ 13) ↔ ((length im ≡ imageBytes) × (checkCall f ≡ 13))
-  unfolding runDoors imageDoors fileDoors headDoors segmentDoors machineDoors budgetDoors runningDoors
-  door-13 = door-exactly 13 (omega arith) so (not-false so is-equal) and back (check-exactly f 13 (omega arith))
+  past-the-file : (n : ℕ) → names n (imageDoors im) ≡ false → names n (fileDoors f) ≡ false → (door ≡ n) ↔ ((length im ≡ imageBytes) × (Accepted f × (firstOf later ≡ n)))
+  unfolding runDoor runDoors checkCall imageDoors fileDoors headDoors segmentDoors
+  past-the-file n k q = in-later n (imageDoors im) (fileDoors f ++ later) refl k so image-passes and (in-later n (fileDoors f) later refl q so check-0 f and itself)
 
-  door-14 : (door ≡ 14) ↔ ((length im ≡ imageBytes) × (checkCall f ≡ 14))
-  unfolding runDoors imageDoors fileDoors headDoors segmentDoors machineDoors budgetDoors runningDoors
-  door-14 = door-exactly 14 (omega arith) so (not-false so is-equal) and back (check-exactly f 14 (omega arith))
-
-  door-15 : (door ≡ 15) ↔ ((length im ≡ imageBytes) × (checkCall f ≡ 15))
-  unfolding runDoors imageDoors fileDoors headDoors segmentDoors machineDoors budgetDoors runningDoors
-  door-15 = door-exactly 15 (omega arith) so (not-false so is-equal) and back (check-exactly f 15 (omega arith))
+  door-11 : (door ≡ 11) ↔ (length im ≡ imageBytes → ⊥)
+  unfolding runDoor runDoors imageDoors fileDoors headDoors segmentDoors machineDoors budgetDoors runningDoors
+  door-11 = in-first 11 (imageDoors im) (fileDoors f ++ later) refl (omega arith) refl so exactly 11 (imageDoors im) (omega arith) so not-true so not-equal
 
   door-16 : (door ≡ 16) ↔ ((length im ≡ imageBytes) × (Accepted f × (Fits m → ⊥)))
-  unfolding runDoors imageDoors fileDoors headDoors segmentDoors machineDoors budgetDoors runningDoors
-  door-16 = door-exactly 16 (omega arith) so filed (not-true so failing so never (fits m))
+  unfolding imageDoors fileDoors headDoors segmentDoors machineDoors budgetDoors runningDoors
+  door-16 = past-the-file 16 refl refl so itself and itself and (exactly 16 later (omega arith) so not-true so failing so never (fits m))
 
   door-17 : (door ≡ 17) ↔ ((length im ≡ imageBytes) × (Accepted f × (Fits m × (1000000 < b))))
-  unfolding runDoors imageDoors fileDoors headDoors segmentDoors machineDoors budgetDoors runningDoors
-  door-17 = door-exactly 17 (omega arith) so filed ((not-false so fits m) and is-less)
+  unfolding imageDoors fileDoors headDoors segmentDoors machineDoors budgetDoors runningDoors
+  door-17 = past-the-file 17 refl refl so itself and itself and (exactly 17 later (omega arith) so (not-false so fits m) and is-less)
 
   door-28 : (door ≡ 28) ↔ ((length im ≡ imageBytes) × (Accepted f × (Fits m × ((b ≤ 1000000) × (m .status ≡ 0 → ⊥)))))
-  unfolding runDoors imageDoors fileDoors headDoors segmentDoors machineDoors budgetDoors runningDoors
-  door-28 = door-exactly 28 (omega arith) so filed ((not-false so fits m) and not-less and (not-true so not-equal))
+  unfolding imageDoors fileDoors headDoors segmentDoors machineDoors budgetDoors runningDoors
+  door-28 = past-the-file 28 refl refl so itself and itself and (exactly 28 later (omega arith) so (not-false so fits m) and not-less and (not-true so not-equal))
 
   pub door-0 : (door ≡ 0) ↔ Open l m im b
-  unfolding runDoor runDoors imageDoors fileDoors headDoors segmentDoors machineDoors budgetDoors runningDoors
+  unfolding imageDoors fileDoors headDoors segmentDoors machineDoors budgetDoors runningDoors
   door-0 =
-      none-holds (runDoors l m im b) refl so filed ((not-false so fits m) and not-less and (not-false so is-equal) and itself)
+      past-the-file 0 refl refl so itself and itself and (none-holds later refl so (not-false so fits m) and not-less and (not-false so is-equal) and itself)
       so (
         λ w. record { image = w .0; file = w .1 .0; machine = w .1 .1 .0; budget = w .1 .1 .1 .0; running = w .1 .1 .1 .1 .0 },
         λ o. (o .image, (o .file, (o .machine, (o .budget, (o .running, tt))))),
@@ -165,103 +148,101 @@ module _ (l : Lent) (m : Machine) (im : List ℕ) (b : ℕ) where
   unfolding runCall
   call-open e = rw (eq-eqb _ _ e)
 
-  -- the doors' numbers
-  door-is : (door ≡ 0) ⊎ (((11 ≤ door) × (door ≤ 17)) ⊎ (door ≡ 28))
+  -- the tables: a door's number, and the status that a run ends with
+  door-is : among door (0 ∷ doorNumbers) ≡ true
   unfolding runDoor runDoors imageDoors fileDoors headDoors segmentDoors machineDoors budgetDoors runningDoors
-  door-is =
-      (either-true so is-equal or (either-true so (both-true so is-most and is-most) or is-equal)) .0
-      (first-is (λ n. eqb n 0 || (within 11 17 n || eqb n 28)) (runDoors l m im b) refl refl)
+  door-is = first-is (λ n. among n (0 ∷ doorNumbers)) (runDoors l m im b) refl refl
 
-  -- the statuses that a run can end with
-  last-is : door ≡ 0 → (last ≤ 2) ⊎ ((21 ≤ last) × (last ≤ 27))
-  last-is e = run-fits (given l) b (begun m im) (door-0 .0 e .machine) .status
+  doors-all : all-of (λ n. names n (runDoors l m im b)) doorNumbers ≡ true
+  unfolding runDoors imageDoors fileDoors headDoors segmentDoors machineDoors budgetDoors runningDoors
+  doors-all = refl
 
-  by-door : (n : ℕ) → ((11 ≤ n) × (n ≤ 17)) ⊎ (n ≡ 28) → (answer ≡ n) ↔ (door ≡ n)
+  last-is : door ≡ 0 → among last statuses ≡ true
+  last-is e = is-among last statuses .1 (run-fits (given l) b (begun m im) (door-0 .0 e .machine) .status)
+
+  answer-shut : (door ≡ 0 → ⊥) → answer ≡ door
+  answer-shut h = ap (λ (r : Left Ran). r .result .answer) (call-shut h)
+
+  answer-open : door ≡ 0 → answer ≡ last
+  answer-open z = ap (λ (r : Left Ran). r .result .answer) (call-open z)
+
+  -- none is in both, so that an answer says where it is from
+  no-status : (n s : ℕ) → among n doorNumbers ≡ true → among s statuses ≡ true → s ≡ n → ⊥
+  no-status n s k h q = in-one doorNumbers statuses n refl k (rw q at h)
+
+  by-door : (n : ℕ) → among n doorNumbers ≡ true → (answer ≡ n) ↔ (door ≡ n)
   by-door n k = go (ℕ-discrete door 0)
     where
       go : Dec (door ≡ 0) → (answer ≡ n) ↔ (door ≡ n)
-      go (no h) = let e = ap (λ (r : Left Ran). r .result .answer) (call-shut h) in (λ q. sym e ∙ q, λ q. e ∙ q)
-      go (yes z) =
-          let e : answer ≡ last = ap (λ (r : Left Ran). r .result .answer) (call-open z) in
-          (λ q. absurd (clash k (last-is z) (sym e ∙ q)), λ q. absurd (⊎-elim (λ h. let i = h .0 in omega arith) (λ h. omega arith) k))
-        where
-          clash : {n last : ℕ} → ((11 ≤ n) × (n ≤ 17)) ⊎ (n ≡ 28) → (last ≤ 2) ⊎ ((21 ≤ last) × (last ≤ 27)) → last ≡ n → ⊥
-          clash (inl h) (inl s) q = omega arith
-          clash (inl h) (inr s) q = omega arith
-          clash (inr h) (inl s) q = omega arith
-          clash (inr h) (inr s) q = omega arith
+      go (no h) = (λ q. sym (answer-shut h) ∙ q, λ q. answer-shut h ∙ q)
+      go (yes z) = (λ q. absurd (no-status n last k (last-is z) (sym (answer-open z) ∙ q)), λ q. absurd (no-status n 0 k refl (sym z ∙ q)))
 
-  by-run : (n : ℕ) → (n ≤ 2) ⊎ ((21 ≤ n) × (n ≤ 27)) → (answer ≡ n) ↔ (Open l m im b × (last ≡ n))
+  by-run : (n : ℕ) → among n statuses ≡ true → (answer ≡ n) ↔ (Open l m im b × (last ≡ n))
   by-run n k = go (ℕ-discrete door 0)
     where
-      clash : {n d : ℕ} → (n ≤ 2) ⊎ ((21 ≤ n) × (n ≤ 27)) → (d ≡ 0) ⊎ (((11 ≤ d) × (d ≤ 17)) ⊎ (d ≡ 28)) → (d ≡ 0 → ⊥) → d ≡ n → ⊥
-      clash k (inl z) h q = h z
-      clash (inl k) (inr (inl d)) h q = omega arith
-      clash (inl k) (inr (inr d)) h q = omega arith
-      clash (inr k) (inr (inl d)) h q = omega arith
-      clash (inr k) (inr (inr d)) h q = omega arith
+      shut : (door ≡ 0 → ⊥) → door ≡ n → ⊥
+      shut h q = ⊎-elim (λ e. h (is-equal .0 e)) (λ e. no-status door n e k (sym q)) (either-true {s = eqb door 0} .0 door-is)
 
       go : Dec (door ≡ 0) → (answer ≡ n) ↔ (Open l m im b × (last ≡ n))
-      go (no h) =
-          let e : answer ≡ door = ap (λ (r : Left Ran). r .result .answer) (call-shut h) in
-          (λ q. absurd (clash k door-is h (sym e ∙ q)), λ q. absurd (h (door-0 .1 (q .0))))
-      go (yes z) =
-          let e : answer ≡ last = ap (λ (r : Left Ran). r .result .answer) (call-open z) in
-          (λ q. (door-0 .0 z, sym e ∙ q), λ q. e ∙ q .1)
+      go (no h) = (λ q. absurd (shut h (sym (answer-shut h) ∙ q)), λ q. absurd (h (door-0 .1 (q .0))))
+      go (yes z) = (λ q. (door-0 .0 z, sym (answer-open z) ∙ q), λ q. answer-open z ∙ q .1)
 
-  -- a run never answers 19
-  pub never-19 : answer ≡ 19 → ⊥
-  never-19 e = go (ℕ-discrete door 0)
+  -- every answer is in one of the tables, and 19 is in none
+  answer-is : among answer (statuses ++ doorNumbers) ≡ true
+  answer-is = go (ℕ-discrete door 0)
     where
-      go : Dec (door ≡ 0) → ⊥
-      go (no h) =
-          let q = sym (ap (λ (r : Left Ran). r .result .answer) (call-shut h)) ∙ e in
-          ⊎-elim h (⊎-elim (λ d. let i = d .1 in omega arith) (λ d. omega arith)) door-is
-      go (yes z) =
-          let q : last ≡ 19 = sym (ap (λ (r : Left Ran). r .result .answer) (call-open z)) ∙ e in
-          ⊎-elim (λ s. omega arith) (λ s. let i = s .0 in omega arith) (last-is z)
+      go : Dec (door ≡ 0) → among answer (statuses ++ doorNumbers) ≡ true
+      go (no h) = rw (answer-shut h) (in-both (0 ∷ doorNumbers) (statuses ++ doorNumbers) door refl door-is)
+      go (yes z) = rw (answer-open z) (in-both statuses (statuses ++ doorNumbers) last refl (last-is z))
+
+  pub never-19 : answer ≡ 19 → ⊥
+  never-19 e = apart (sym (rw e at answer-is))
 
   -- ---- number by number
   pub run-11 : (answer ≡ 11) ↔ (length im ≡ imageBytes → ⊥)
-  run-11 = by-door 11 (inl (omega arith, omega arith)) so door-11
+  run-11 = by-door 11 refl so door-11
 
-  pub run-12 : (answer ≡ 12) ↔ ((length im ≡ imageBytes) × (checkCall f ≡ 12))
-  run-12 = by-door 12 (inl (omega arith, omega arith)) so door-12
-
-  pub run-13 : (answer ≡ 13) ↔ ((length im ≡ imageBytes) × (checkCall f ≡ 13))
-  run-13 = by-door 13 (inl (omega arith, omega arith)) so door-13
-
-  pub run-14 : (answer ≡ 14) ↔ ((length im ≡ imageBytes) × (checkCall f ≡ 14))
-  run-14 = by-door 14 (inl (omega arith, omega arith)) so door-14
-
-  pub run-15 : (answer ≡ 15) ↔ ((length im ≡ imageBytes) × (checkCall f ≡ 15))
-  run-15 = by-door 15 (inl (omega arith, omega arith)) so door-15
+  pub run-checked : (n : ℕ) → among n (12 ∷ 13 ∷ 14 ∷ 15 ∷ []) ≡ true → (answer ≡ n) ↔ ((length im ≡ imageBytes) × (checkCall f ≡ n))
+  unfolding imageDoors machineDoors budgetDoors runningDoors
+  run-checked n k = by-door n (in-both files doorNumbers n refl k) so at-the-file n (ltb-true 0 n (one-of (ltb 0) files n refl k)) (not-true .0 (one-of (λ n. not (names n (imageDoors im))) files n refl k)) (not-true .0 (one-of (λ n. not (names n later)) files n refl k))
+    where
+      files : List ℕ
+      files = 12 ∷ 13 ∷ 14 ∷ 15 ∷ []
 
   pub run-16 : (answer ≡ 16) ↔ ((length im ≡ imageBytes) × (Accepted f × (Fits m → ⊥)))
-  run-16 = by-door 16 (inl (omega arith, omega arith)) so door-16
+  run-16 = by-door 16 refl so door-16
 
   pub run-17 : (answer ≡ 17) ↔ ((length im ≡ imageBytes) × (Accepted f × (Fits m × (1000000 < b))))
-  run-17 = by-door 17 (inl (omega arith, omega arith)) so door-17
+  run-17 = by-door 17 refl so door-17
 
   pub run-28 : (answer ≡ 28) ↔ ((length im ≡ imageBytes) × (Accepted f × (Fits m × ((b ≤ 1000000) × (m .status ≡ 0 → ⊥)))))
-  run-28 = by-door 28 (inr refl) so door-28
+  run-28 = by-door 28 refl so door-28
 
   pub run-0 : (answer ≡ 0) ↔ (Open l m im b × ((last ≡ 0) × (run (given l) b (begun m im) .counts .steps ≡ b)))
   run-0 =
-      by-run 0 (inl (omega arith))
+      by-run 0 refl
       so itself and (λ z. (z, let u = budget-used (given l) b (begun m im) z in omega arith), λ w. w .0)
 
   -- a status other than 0: one of the steps met its condition, and it was the last
   abbrev g : Given
   g = given l
 
-  pub run-ended : (n : ℕ) → (n ≡ 0 → ⊥) → (n ≤ 2) ⊎ ((21 ≤ n) × (n ≤ 27)) → (Q : Machine → Type 0)
+  abbrev endings : List ℕ
+  endings = 1 ∷ 2 ∷ refusalNumbers
+
+  not-zero : (n : ℕ) → among n endings ≡ true → n ≡ 0 → ⊥
+  not-zero n k z = apart (sym (rw z at k))
+
+  pub run-ended : (n : ℕ) → among n endings ≡ true → (Q : Machine → Type 0)
       → ((m : Machine) → Fits m → m .status ≡ 0 → (step g m .machine .status ≡ n) ↔ Q m)
       → (answer ≡ n) ↔ (Open l m im b × During g b (begun m im) Q)
-  run-ended n p k Q each = by-run n k so (λ w. (w .0, there (w .0) (ended g n p b (begun m im) (w .0 .running) .0 (w .1))), λ w. (w .0, ended g n p b (begun m im) (w .0 .running) .1 (back-there (w .0) (w .1))))
+  run-ended n k Q each = by-run n (in-both endings statuses n refl k) so (λ w. (w .0, there (w .0) (steps (w .0) .0 (w .1))), λ w. (w .0, steps (w .0) .1 (back-there (w .0) (w .1))))
     where
       s : State
       s = begun m im
+
+      steps : Open l m im b → (last ≡ n) ↔ During g b s (λ m. step g m .machine .status ≡ n)
+      steps o = ended g n (not-zero n k) b s (o .running)
 
       there : Open l m im b → During g b s (λ m. step g m .machine .status ≡ n) → During g b s Q
       there o d = (d .0, (d .1 .0, (d .1 .1 .0, each _ (run-fits g (d .0) s (o .machine)) (d .1 .1 .0) .0 (d .1 .1 .1))))
@@ -269,14 +250,22 @@ module _ (l : Lent) (m : Machine) (im : List ℕ) (b : ℕ) where
       back-there : Open l m im b → During g b s Q → During g b s (λ m. step g m .machine .status ≡ n)
       back-there o d = (d .0, (d .1 .0, (d .1 .1 .0, each _ (run-fits g (d .0) s (o .machine)) (d .1 .1 .0) .1 (d .1 .1 .1))))
 
+  over-two : (n : ℕ) → among n refusalNumbers ≡ true → 2 < n
+  over-two n k = ltb-true 2 n (one-of (ltb 2) refusalNumbers n refl k)
+
+  pub run-refusal : (n : ℕ) → among n refusalNumbers ≡ true → (Q : Machine → Type 0) → ((m : Machine) → Fits m → (refusal g m ≡ n) ↔ Q m)
+      → (answer ≡ n) ↔ (Open l m im b × During g b (begun m im) Q)
+  run-refusal n k Q each = run-ended n (in-both refusalNumbers endings n refl k) Q (λ m f r. above-two g m f r n (over-two n k) so each m f)
+
   -- a run that ends in a refusal: the steps before it stand, with their pixels and their counts, and of the machine that they left only the status is changed
-  pub run-refused : (n : ℕ) → 21 ≤ n → n ≤ 27 → answer ≡ n
+  pub run-refused : (n : ℕ) → Among n refusalNumbers → answer ≡ n
       → (k : ℕ) × ((k < b) × ((run g k (begun m im) .counts .steps ≡ k) × (runCall l m im b ≡ refusedAfter n (run g k (begun m im)))))
-  run-refused n p q e =
-      let w = by-run n (inr (p, q)) .0 e in
-      let some : n ≡ 0 → ⊥ = λ z. omega arith in
+  run-refused n h e =
+      let k = is-among n refusalNumbers .1 h in
+      let w = by-run n (in-both refusalNumbers statuses n refl k) .0 e in
+      let some : n ≡ 0 → ⊥ = λ z. let o = over-two n k in omega arith in
       let d = ended g n some b (begun m im) (w .0 .running) .0 (w .1) in
       let t = run g (d .0) (begun m im) in
-      let r : refusal g (t .machine) ≡ n = above-two g (t .machine) (run-fits g (d .0) (begun m im) (w .0 .machine)) (d .1 .1 .0) n (omega arith) .0 (d .1 .1 .1) in
+      let r : refusal g (t .machine) ≡ n = above-two g (t .machine) (run-fits g (d .0) (begun m im) (w .0 .machine)) (d .1 .1 .0) n (over-two n k) .0 (d .1 .1 .1) in
       let u = budget-used g (d .0) (begun m im) (d .1 .1 .0) in
       (d .0, (d .1 .0, (omega arith, call-open (door-0 .1 (w .0)) ∙ ap answered (ends-there g n some b (begun m im) d ∙ refused-only g t (λ z. some (sym r ∙ z))) ∙ rw r)))

@@ -3,9 +3,8 @@
 use Prim.Native.Nat.{ℕ, suc, _+_, _*_, _≤_, _<_, _%_}
 use mathlib.Core.Bool.{true, false}
 use mathlib.Core.List.{List, [], _∷_, _++_, reverse}
-use mathlib.Core.Path.{_≡_, sym, ap, _∙_}
-use mathlib.Core.Logic.{_⊎_, inl, inr, _↔_}
-use native.Mathlib.Omega.{arith}
+use mathlib.Core.Path.{_≡_, refl, sym, ap, _∙_}
+use mathlib.Core.Logic.{_⊎_, _↔_}
 use lib.ListN.{length, getD}
 use lib.IntN.{ℤ, pos, natAbs, _+ℤ_, _-ℤ_, _*ℤ_}
 use lib.Signed.{_≤ℤ_, _<ℤ_}
@@ -14,10 +13,10 @@ use Rattle.definition.specs.Image.{Shape, square, imageBytes, blank, pixelAt, i
 use Rattle.definition.specs.File.{tag, segments, offset, size, header, segmentOf, placeOf, fetch, numberIn}
 use Rattle.definition.specs.Words.{shortX, shortY, long, coordinate}
 use Rattle.definition.specs.Vector.{longer, vector}
-use Rattle.definition.specs.Machine.{fresh, startedAt, withStatus, shapeOf, penOf}
+use Rattle.definition.specs.Machine.{refusalNumbers, fresh, startedAt, withStatus, shapeOf, penOf}
 use Rattle.definition.specs.Step.{Given, first, second, refusal, step}
-use Rattle.definition.specs.Run.{State, begun, after, run}
-use Rattle.definition.specs.Calls.{Lent, plain, given, checkCall, startCall, runDoor, turnedAway, runCall, stepCall, clearCall, readCall}
+use Rattle.definition.specs.Run.{State, begun, withMachine, after, run}
+use Rattle.definition.specs.Calls.{Lent, plain, withFile, given, checkCall, startCall, runDoor, turnedAway, runCall, stepCall, clearCall, readCall}
 use Rattle.definition.specs.Plot.{wordsIn, plotBudget, ranLine, refusedLine, plotLine}
 use Rattle.definition.specs.Promises.{Promise-check, Promise-fresh, Promise-start, Promise-run, Promise-step, Promise-clear, Promise-read}
 use Rattle.definition.specs.declared.Units.{Units}
@@ -27,7 +26,7 @@ use Rattle.definition.specs.declared.Fetched.the-variants.{Word}
 use Rattle.definition.specs.declared.Ran.{Ran}
 use Rattle.definition.specs.declared.Started.{Started}
 use Rattle.definition.specs.declared.Read.{Read}
-use Rattle.demands.specs.Conditions.{Head, Keeps, Accepted, SameHeader, SameWords, Fits, Open, During, InField, On, Off, NotBuilt, NoMode, Pair, word, more, Begins, FetchRefused, MovesOut, Beyond, Stops, LatchIs}
+use Rattle.demands.specs.Conditions.{Among, Head, Keeps, Accepted, SameHeader, SameWords, Fits, Open, During, InField, On, Off, NotBuilt, NoMode, Pair, word, more, Begins, FetchRefused, MovesOut, Beyond, Stops, LatchIs}
 use Rattle.demands.specs.Ledger.{completed, changes, settled}
 use Rattle.demands.specs.Graphs.{AlongX, AlongY, weeks, ofLit, shown, Ready, plotted}
 use Rattle.demands.specs.Exact.{exact}
@@ -53,23 +52,23 @@ use Rattle.demands.proofs.Strokes as strokes
 pub check-reads-the-header : (f g : List ℕ) → SameHeader f g → length f ≡ length g → checkCall f ≡ checkCall g
 check-reads-the-header = outside.same-check
 
--- two accepted files, of any lengths, with the same header and the same words in their segments: the same run, and the same step
-pub run-reads-the-segments : (f g : List ℕ) → SameWords f g → Accepted f → Accepted g → (m : Machine) (im : List ℕ) (b : ℕ) → runCall (plain f) m im b ≡ runCall (plain g) m im b
+-- two accepted files, of any lengths, with the same header and the same words in their segments: the same run, and the same step, whatever else is lent
+pub run-reads-the-segments : (f g : List ℕ) → SameWords f g → Accepted f → Accepted g → (l : Lent) (m : Machine) (im : List ℕ) (b : ℕ) → runCall (withFile l f) m im b ≡ runCall (withFile l g) m im b
 run-reads-the-segments = outside.same-run
 
-pub step-reads-the-segments : (f g : List ℕ) → SameWords f g → Accepted f → Accepted g → (m : Machine) (im : List ℕ) → stepCall (plain f) m im ≡ stepCall (plain g) m im
-step-reads-the-segments f g h p q m im = outside.same-run f g h p q m im 1
+pub step-reads-the-segments : (f g : List ℕ) → SameWords f g → Accepted f → Accepted g → (l : Lent) (m : Machine) (im : List ℕ) → stepCall (withFile l f) m im ≡ stepCall (withFile l g) m im
+step-reads-the-segments f g h p q l m im = outside.same-run f g h p q l m im 1
 
 -- for one: whatever words follow an accepted file
-pub words-after-the-file : (f more : List ℕ) → Accepted f → (m : Machine) (im : List ℕ) (b : ℕ) → runCall (plain f) m im b ≡ runCall (plain (f ++ more)) m im b
+pub words-after-the-file : (f more : List ℕ) → Accepted f → (l : Lent) (m : Machine) (im : List ℕ) (b : ℕ) → runCall (withFile l f) m im b ≡ runCall (withFile l (f ++ more)) m im b
 words-after-the-file = outside.appended-run
 
 -- accepted or not: two files of one length with the same header and the same words in their segments; and so for the line of `plot`
-pub run-of-one-length : (f h : List ℕ) → SameWords f h → length f ≡ length h → (m : Machine) (im : List ℕ) (b : ℕ) → runCall (plain f) m im b ≡ runCall (plain h) m im b
+pub run-of-one-length : (f h : List ℕ) → SameWords f h → length f ≡ length h → (l : Lent) (m : Machine) (im : List ℕ) (b : ℕ) → runCall (withFile l f) m im b ≡ runCall (withFile l h) m im b
 run-of-one-length = outside.alike-run
 
-pub step-of-one-length : (f h : List ℕ) → SameWords f h → length f ≡ length h → (m : Machine) (im : List ℕ) → stepCall (plain f) m im ≡ stepCall (plain h) m im
-step-of-one-length f h w l m im = outside.alike-run f h w l m im 1
+pub step-of-one-length : (f h : List ℕ) → SameWords f h → length f ≡ length h → (l : Lent) (m : Machine) (im : List ℕ) → stepCall (withFile l f) m im ≡ stepCall (withFile l h) m im
+step-of-one-length f h w e l m im = outside.alike-run f h w e l m im 1
 
 pub line-of-one-length : (bytes other : List ℕ) → SameWords (wordsIn bytes) (wordsIn other) → length bytes ≡ length other → plotLine bytes ≡ plotLine other
 line-of-one-length = outside.alike-line
@@ -90,11 +89,11 @@ run-turned-away = calls.call-shut
 
 -- of an instruction: no pixel is changed, of the machine only the status, so that the counter is at its first word; and it is not counted
 pub refused-instruction : (g : Given) (s : State) → (refusal g (s .machine) ≡ 0 → ⊥)
-    → after s (step g (s .machine)) ≡ record { machine = withStatus (s .machine) (refusal g (s .machine)); image = s .image; counts = s .counts }
+    → after s (step g (s .machine)) ≡ withMachine s (withStatus (s .machine) (refusal g (s .machine)))
 refused-instruction = runs.refused-only
 
 -- in a run: the k steps before it stand, with their machine, their image and their counts
-pub refused-in-a-run : (l : Lent) (m : Machine) (im : List ℕ) (b n : ℕ) → 21 ≤ n → n ≤ 27 → runCall l m im b .result .answer ≡ n
+pub refused-in-a-run : (l : Lent) (m : Machine) (im : List ℕ) (b n : ℕ) → Among n refusalNumbers → runCall l m im b .result .answer ≡ n
     → (k : ℕ) × ((k < b) × ((run (given l) k (begun m im) .counts .steps ≡ k) × (runCall l m im b ≡ refusedAfter n (run (given l) k (begun m im)))))
 refused-in-a-run = calls.run-refused
 
@@ -152,25 +151,25 @@ module _ (l : Lent) (m : Machine) (im : List ℕ) (b : ℕ) where
   run-0 = calls.run-0 l m im b
 
   pub run-1 : (answer ≡ 1) ↔ Ends (λ m. (numberIn (first g m) ≡ 0) × (Stops (word g m) × LatchIs false m (word g m)))
-  run-1 = calls.run-ended l m im b 1 (λ e. omega arith) (inl (omega arith)) _ (λ m f r. steps.step-stops g m f r false)
+  run-1 = calls.run-ended l m im b 1 refl _ (λ m f r. steps.step-stops g m f r false)
 
   pub run-2 : (answer ≡ 2) ↔ Ends (λ m. (numberIn (first g m) ≡ 0) × (Stops (word g m) × LatchIs true m (word g m)))
-  run-2 = calls.run-ended l m im b 2 (λ e. omega arith) (inl (omega arith)) _ (λ m f r. steps.step-stops g m f r true)
+  run-2 = calls.run-ended l m im b 2 refl _ (λ m f r. steps.step-stops g m f r true)
 
   pub run-11 : (answer ≡ 11) ↔ (length im ≡ imageBytes → ⊥)
   run-11 = calls.run-11 l m im b
 
   pub run-12 : (answer ≡ 12) ↔ ((length im ≡ imageBytes) × (checkCall (l .file) ≡ 12))
-  run-12 = calls.run-12 l m im b
+  run-12 = calls.run-checked l m im b 12 refl
 
   pub run-13 : (answer ≡ 13) ↔ ((length im ≡ imageBytes) × (checkCall (l .file) ≡ 13))
-  run-13 = calls.run-13 l m im b
+  run-13 = calls.run-checked l m im b 13 refl
 
   pub run-14 : (answer ≡ 14) ↔ ((length im ≡ imageBytes) × (checkCall (l .file) ≡ 14))
-  run-14 = calls.run-14 l m im b
+  run-14 = calls.run-checked l m im b 14 refl
 
   pub run-15 : (answer ≡ 15) ↔ ((length im ≡ imageBytes) × (checkCall (l .file) ≡ 15))
-  run-15 = calls.run-15 l m im b
+  run-15 = calls.run-checked l m im b 15 refl
 
   pub run-16 : (answer ≡ 16) ↔ ((length im ≡ imageBytes) × (Accepted (l .file) × (Fits m → ⊥)))
   run-16 = calls.run-16 l m im b
@@ -182,25 +181,25 @@ module _ (l : Lent) (m : Machine) (im : List ℕ) (b : ℕ) where
   run-28 = calls.run-28 l m im b
 
   pub run-21 : (answer ≡ 21) ↔ Ends (FetchRefused 21 g)
-  run-21 = calls.run-ended l m im b 21 (λ e. omega arith) (inr (omega arith, omega arith)) _ (steps.step-21 g)
+  run-21 = calls.run-refusal l m im b 21 refl _ (λ m f. steps.refused-21 g m)
 
   pub run-22 : (answer ≡ 22) ↔ Ends (FetchRefused 22 g)
-  run-22 = calls.run-ended l m im b 22 (λ e. omega arith) (inr (omega arith, omega arith)) _ (steps.step-22 g)
+  run-22 = calls.run-refusal l m im b 22 refl _ (λ m f. steps.refused-22 g m)
 
   pub run-23 : (answer ≡ 23) ↔ Ends (FetchRefused 23 g)
-  run-23 = calls.run-ended l m im b 23 (λ e. omega arith) (inr (omega arith, omega arith)) _ (steps.step-23 g)
+  run-23 = calls.run-refusal l m im b 23 refl _ (λ m f. steps.refused-23 g m)
 
   pub run-24 : (answer ≡ 24) ↔ Ends (λ m. (numberIn (first g m) ≡ 0) × NotBuilt (word g m))
-  run-24 = calls.run-ended l m im b 24 (λ e. omega arith) (inr (omega arith, omega arith)) _ (steps.step-24 g)
+  run-24 = calls.run-refusal l m im b 24 refl _ (λ m f. steps.refused-24 g m)
 
   pub run-25 : (answer ≡ 25) ↔ Ends (λ m. (numberIn (first g m) ≡ 0) × NoMode (m .mode) (word g m))
-  run-25 = calls.run-ended l m im b 25 (λ e. omega arith) (inr (omega arith, omega arith)) _ (steps.step-25 g)
+  run-25 = calls.run-refusal l m im b 25 refl _ (λ m f. steps.refused-25 g m)
 
   pub run-26 : (answer ≡ 26) ↔ Ends (λ m. Begins g m × ((numberIn (second g m) ≡ 0) × (Pair (m .mode) (word g m) × On 15 (more g m))))
-  run-26 = calls.run-ended l m im b 26 (λ e. omega arith) (inr (omega arith, omega arith)) _ (steps.step-26 g)
+  run-26 = calls.run-refusal l m im b 26 refl _ (λ m f. steps.refused-26 g m)
 
   pub run-27 : (answer ≡ 27) ↔ Ends (MovesOut g)
-  run-27 = calls.run-ended l m im b 27 (λ e. omega arith) (inr (omega arith, omega arith)) _ (steps.step-27 g)
+  run-27 = calls.run-refusal l m im b 27 refl _ (steps.refused-27 g)
 
 -- 27 by the kind of the word. An order never gives it
 module _ (g : Given) (m : Machine) where
@@ -355,7 +354,7 @@ vector-backwards = vectors.vector-turned
 
 pub image-backwards : (m : Machine) → Fits m → (im : List ℕ) (a b : Pixel)
     → stores (shapeOf m) (penOf m) im (inside (shapeOf m) (vector b a)) ≡ stores (shapeOf m) (penOf m) im (inside (shapeOf m) (vector a b))
-image-backwards m f = vectors.same-image (shapeOf m) (penOf m) (λ v. kept.pen-low m f)
+image-backwards m f = vectors.same-image (shapeOf m) (penOf m) (kept.pen-fits m f)
 
 -- ==== One outcome: two outcomes that the promise of a call allows are equal
 

@@ -17,10 +17,10 @@ use Rattle.definition.specs.Calls.{Lent, given, answered, runCall, readCall}
 use Rattle.definition.specs.declared.Units.{Units}
 use Rattle.definition.specs.declared.Pixel.{Pixel}
 use Rattle.definition.specs.declared.Machine.{Machine}
-use Rattle.demands.specs.Conditions.{InRange, Fits, Open, During, InField, On, Off, word}
+use Rattle.demands.specs.Conditions.{Among, InRange, Fits, Open, During, InField, On, Off, word}
 use Rattle.demands.specs.Ledger.{completed}
 use Rattle.demands.specs.Graphs.{Axis, AllLit, stepped, weeks, ofLit, shown, weekAt, Ready, plotted}
-use Rattle.demands.specs.Strokes.{In, Stroke, strokesOf, strokes, strokePixels, drawn, ledgerWords, Lights, lightsBetween, Plots, vectorBetween, longerBetween, OnVector, LitVector, VectorWords, negated, Turned, seen, standing, Unstruck}
+use Rattle.demands.specs.Strokes.{Stroke, strokesOf, strokes, strokePixels, drawn, ledgerWords, Lights, lightsBetween, Plots, vectorBetween, longerBetween, OnVector, LitVector, VectorWords, negated, Turned, seen, standing, Unstruck}
 use Rattle.demands.proofs.Strokes as all
 use Rattle.demands.proofs.Origins as origins
 use Rattle.demands.proofs.Places as places
@@ -75,16 +75,16 @@ else-stores-none = places.else-stores-none
 -- ==== Where a stroke comes from
 
 -- a stroke is of a run exactly when the machine after some k < b steps, which runs, is the stroke's own, and lights its pixel
-pub stroke-origin : (g : Given) (b : ℕ) (s : State) (t : Stroke) → In t (strokes g b s) ↔ During g b s (λ m. (t .machine ≡ m) × Lights g m (t .pixel))
+pub stroke-origin : (g : Given) (b : ℕ) (s : State) (t : Stroke) → Among t (strokes g b s) ↔ During g b s (λ m. (t .machine ≡ m) × Lights g m (t .pixel))
 stroke-origin = origins.stroke-origin
 
 -- the same in words and positions alone: the word there has bit 15 clear and bit 14 set, write is on, and the pixel is in the field and one of those that
 -- its mode lights between the position before the step and the one after it
-pub stroke-in-words : (g : Given) (b : ℕ) (s : State) (t : Stroke) → In t (strokes g b s) ↔ During g b s (λ m. (t .machine ≡ m) × Plots g m (t .pixel))
+pub stroke-in-words : (g : Given) (b : ℕ) (s : State) (t : Stroke) → Among t (strokes g b s) ↔ During g b s (λ m. (t .machine ≡ m) × Plots g m (t .pixel))
 stroke-in-words = places.stroke-in-words
 
 -- in modes 1 and 2: it is pixel i of the vector from where step k began to where it ended, and lies near the exact line between the two
-pub vector-origin : (g : Given) (b : ℕ) (s : State) (t : Stroke) → In t (strokes g b s) → (t .machine .mode ≡ 1) ⊎ (t .machine .mode ≡ 2)
+pub vector-origin : (g : Given) (b : ℕ) (s : State) (t : Stroke) → Among t (strokes g b s) → (t .machine .mode ≡ 1) ⊎ (t .machine .mode ≡ 2)
     → (k : ℕ) × ((k < b) × ((t .machine ≡ run g k s .machine) × OnVector (run g k s .machine) (run g (suc k) s .machine) (t .pixel)))
 vector-origin = vectors.vector-origin
 
@@ -97,13 +97,13 @@ module _ (g : Given) (b : ℕ) (s : State) (k : ℕ) (below : k < b) (running : 
   m′ = run g (suc k) s .machine
 
   pub vector-drawn : (i : ℕ) (d : Pixel) → i ≤ longerBetween m m′ → InField (shapeOf m) (getD (vectorBetween m m′) i d)
-      → In (record { machine = m; pixel = getD (vectorBetween m m′) i d }) (strokes g b s)
+      → Among (record { machine = m; pixel = getD (vectorBetween m m′) i d }) (strokes g b s)
   vector-drawn = vectors.vector-drawn g b s k below running v
 
-  pub start-drawn : InField (shapeOf m) (pixelAt (shapeOf m) (m .x) (m .y)) → In (record { machine = m; pixel = pixelAt (shapeOf m) (m .x) (m .y) }) (strokes g b s)
+  pub start-drawn : InField (shapeOf m) (pixelAt (shapeOf m) (m .x) (m .y)) → Among (record { machine = m; pixel = pixelAt (shapeOf m) (m .x) (m .y) }) (strokes g b s)
   start-drawn = vectors.start-drawn g b s k below running v
 
-  pub end-drawn : InField (shapeOf m) (pixelAt (shapeOf m) (m′ .x) (m′ .y)) → In (record { machine = m; pixel = pixelAt (shapeOf m) (m′ .x) (m′ .y) }) (strokes g b s)
+  pub end-drawn : InField (shapeOf m) (pixelAt (shapeOf m) (m′ .x) (m′ .y)) → Among (record { machine = m; pixel = pixelAt (shapeOf m) (m′ .x) (m′ .y) }) (strokes g b s)
   end-drawn = vectors.end-drawn g b s k below running v
 
 -- ==== What stands after a run, from a machine in range
@@ -134,7 +134,7 @@ module _ (axis : Axis) (g : Given) (s : State) (ws : List ℕ) (r : Ready axis g
       ≡ shown (s .machine) (ofLit ws (weeks axis (shapeOf (s .machine)) (stepped axis (s .machine) .0) (s .machine .increment) 0 ws))
   week-strokes = in-order.week-strokes axis g s ws r
 
-  pub week-ink : (t : Stroke) → In t (strokes g (length ws) s) → (shapeOf (t .machine) ≡ shapeOf (s .machine)) × (penOf (t .machine) ≡ penOf (s .machine))
+  pub week-ink : (t : Stroke) → Among t (strokes g (length ws) s) → (shapeOf (t .machine) ≡ shapeOf (s .machine)) × (penOf (t .machine) ≡ penOf (s .machine))
   week-ink t = in-order.week-ink axis g s ws t r
 
   module _ (fits : Fits (s .machine)) where

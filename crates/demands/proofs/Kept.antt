@@ -1,21 +1,24 @@
 -- What a run keeps: the image's length, and every field of the machine in its range.
 use Prim.Native.Nat.{ℕ, _≤_, _<_}
 use mathlib.Core.Bool.{true}
-use mathlib.Core.Path.{_≡_, refl, _∙_}
+use mathlib.Core.List.{List, [], _∷_}
+use mathlib.Core.Path.{_≡_, refl, sym, _∙_}
 use mathlib.Core.Logic.{_⊎_, _↔_}
 use native.Mathlib.Omega.{arith}
 use lib.ListN.{length}
+use Rattle.definition.specs.Choice.{among}
 use Rattle.definition.specs.Words.{none, setsMode}
-use Rattle.definition.specs.Machine.{shapeOf, inRange, isMode, isStatus, ranged}
+use Rattle.definition.specs.Machine.{shapeOf, penOf, inRange, isMode, statuses, isStatus, ranged}
 use Rattle.definition.specs.Step.{Given, step}
 use Rattle.definition.specs.Run.{State, run}
 use Rattle.definition.specs.declared.Units.{Units}
 use Rattle.definition.specs.declared.Machine.{Machine}
+use Rattle.definition.proofs.Exactly.{apart}
 use Rattle.definition.proofs.Plain.{_so_, _and_, _or_, is-most, is-mostZ, is-equal, both-true, either-true}
-use Rattle.demands.specs.Conditions.{InRange, Fits}
+use Rattle.demands.specs.Conditions.{Among, InRange, Fits}
 use Rattle.definition.proofs.StepLaws.{ranges, step-ranged}
 use Rattle.demands.proofs.Runs.{run-keeps}
-use Rattle.definition.proofs.StoreLaws.{stores-length}
+use Rattle.definition.proofs.StoreLaws.{stores-length, Fitting}
 
 -- ---- 16's test and the plain ranges
 pub in-range : {u : Units} → (inRange u ≡ true) ↔ InRange u
@@ -26,9 +29,13 @@ is-mode : {k : ℕ} → (isMode k ≡ true) ↔ ((k ≡ none) ⊎ ((1 ≤ k) × 
 unfolding isMode setsMode
 is-mode = either-true so is-equal or (both-true so is-most and is-most)
 
-is-status : {s : ℕ} → (isStatus s ≡ true) ↔ ((s ≤ 2) ⊎ ((21 ≤ s) × (s ≤ 27)))
+pub is-among : (n : ℕ) (ks : List ℕ) → (among n ks ≡ true) ↔ Among n ks
+is-among n [] = (λ e. apart (sym e), λ w. absurd w)
+is-among n (k ∷ ks) = either-true so is-equal or is-among n ks
+
+is-status : {s : ℕ} → (isStatus s ≡ true) ↔ Among s statuses
 unfolding isStatus
-is-status = either-true so is-most or (both-true so is-most and is-most)
+is-status {s} = is-among s statuses
 
 below-four : {n : ℕ} → (n < 4) ↔ (n ≤ 3)
 below-four = (λ h. omega arith, λ h. omega arith)
@@ -42,8 +49,8 @@ fits m =
     )
 
 -- a machine in range stores a digit of its shape
-pub pen-low : (m : Machine) → Fits m → m .value < shapeOf m .base
-pen-low m f = below-four .1 (f .value)
+pub pen-fits : (m : Machine) → Fits m → Fitting (shapeOf m .base) (penOf m)
+pen-fits m f = record { some = omega arith; low = λ v h. below-four .1 (f .value) }
 
 -- ---- a step and a run
 pub step-fits : (g : Given) (m : Machine) → Fits m → Fits (step g m .machine)

@@ -109,7 +109,7 @@ module _ (g : Given) (m : Machine) where
     one-word no-pair = (
       λ c. c .begins .fetched,
       λ z. record {
-        begins = record { fetched = z; built = λ q. let on = q .0 in omega arith; moded = λ q. let e = q .1 in omega arith };
+        begins = record { fetched = z; taken = ⊎-elim (λ q. let on = q .0 in omega arith) (λ q. let e = q .1 in omega arith) };
         fetched = λ q. absurd (⊎-elim (λ h. let on = h .0 in omega arith) no-pair q);
         clear = λ q. absurd (no-pair q);
       },
@@ -119,7 +119,7 @@ module _ (g : Given) (m : Machine) where
     two-words pair = (
       λ c. (c .begins .fetched, (c .fetched (inr pair), c .clear pair)),
       λ q. record {
-        begins = record { fetched = q .0; built = λ q. let on = q .0 in omega arith; moded = λ q. let e = q .1 in omega arith };
+        begins = record { fetched = q .0; taken = ⊎-elim (λ q. let on = q .0 in omega arith) (λ q. let e = q .1 in omega arith) };
         fetched = λ p. q .1 .0;
         clear = λ p. q .1 .1;
       },

@@ -14,11 +14,12 @@ use Rattle.definition.specs.Machine.{penOf}
 use Rattle.definition.specs.declared.Pixel.{Pixel}
 use Rattle.definition.specs.declared.Machine.{Machine}
 use Rattle.definition.proofs.Plain.{failing}
-use Rattle.demands.specs.Conditions.{Fits, InField}
-use Rattle.demands.specs.Strokes.{In, Stroke, strokesOf, seen, samePixel, standing}
+use Rattle.definition.proofs.StoreLaws.{square-sound}
+use Rattle.demands.specs.Conditions.{Among, Fits, InField}
+use Rattle.demands.specs.Strokes.{Stroke, strokesOf, seen, samePixel, standing}
 use Rattle.demands.proofs.Members.{in-inside, in-strokes}
 use Rattle.demands.proofs.Strokes.{drawn-of}
-use Rattle.demands.proofs.Standing.{Keeps, square-holds, fits-keeps, same-pixel, drawn-stands, none-stands}
+use Rattle.demands.proofs.Standing.{Keeps, fits-keeps, same-pixel, drawn-stands, none-stands}
 
 -- ---- the digits, for a pen that leaves alone what it has left
 module _ (m : Machine) (idle : (d : ℕ) → penOf m (penOf m d) ≡ penOf m d) (p : Pixel) where
@@ -30,11 +31,11 @@ module _ (m : Machine) (idle : (d : ℕ) → penOf m (penOf m d) ≡ penOf m d) 
       go true ih = ap (λ (c : ℕ). standing p c (strokesOf m qs)) e ∙ ih
       go false ih = ih
 
-  inked : (d : ℕ) (ps : List Pixel) → In p ps → standing p d (strokesOf m ps) ≡ penOf m d
+  inked : (d : ℕ) (ps : List Pixel) → Among p ps → standing p d (strokesOf m ps) ≡ penOf m d
   inked d [] h = absurd h
   inked d (q ∷ qs) h = go (samePixel p q) refl (rests (penOf m d) qs (idle d)) (inked d qs)
     where
-      go : (b : Bool) → samePixel p q ≡ b → standing p (penOf m d) (strokesOf m qs) ≡ penOf m d → (In p qs → standing p d (strokesOf m qs) ≡ penOf m d)
+      go : (b : Bool) → samePixel p q ≡ b → standing p (penOf m d) (strokesOf m qs) ≡ penOf m d → (Among p qs → standing p d (strokesOf m qs) ≡ penOf m d)
           → standing p (pick b (penOf m d) d) (strokesOf m qs) ≡ penOf m d
       go true e r ih = r
       go false e r ih = ⊎-elim (λ k. absurd (failing .0 e (same-pixel .1 k))) ih h
@@ -44,17 +45,17 @@ module _ (m : Machine) (fits : Fits m) (im : List ℕ) (l : length im ≡ imageB
   stores-stand : seen square (stores square (penOf m) im (inside square ps)) p ≡ standing p (seen square im p) (strokesOf m (inside square ps))
   stores-stand =
       ap (λ (t : List ℕ). seen square t p) (sym (drawn-of m im (inside square ps)))
-      ∙ drawn-stands square imageBytes square-holds p f im (strokesOf m (inside square ps)) l keeps
+      ∙ drawn-stands square square-sound p f im (strokesOf m (inside square ps)) l keeps
     where
-      keeps : (t : Stroke) → In t (strokesOf m (inside square ps)) → Keeps square t
+      keeps : (t : Stroke) → Among t (strokesOf m (inside square ps)) → Keeps square t
       keeps t h =
           let w = in-strokes m t (inside square ps) .0 h in
           fits-keeps t (rw (w .0) fits) (in-inside square (t .pixel) ps .0 (w .1) .0)
 
-  pub lit-stands : In p ps → seen square (stores square (penOf m) im (inside square ps)) p ≡ penOf m (seen square im p)
+  pub lit-stands : Among p ps → seen square (stores square (penOf m) im (inside square ps)) p ≡ penOf m (seen square im p)
   lit-stands h = stores-stand ∙ inked m (λ d. refl) p (seen square im p) (inside square ps) (in-inside square p ps .1 (f, h))
 
-  pub unlit-stands : (In p ps → ⊥) → seen square (stores square (penOf m) im (inside square ps)) p ≡ seen square im p
+  pub unlit-stands : (Among p ps → ⊥) → seen square (stores square (penOf m) im (inside square ps)) p ≡ seen square im p
   unlit-stands h =
       stores-stand
       ∙ none-stands p (seen square im p) (strokesOf m (inside square ps)) (λ t k e. let w = in-strokes m t (inside square ps) .0 k in h (rw e (in-inside square (t .pixel) ps .0 (w .1) .1)))
@@ -73,13 +74,13 @@ store-idle s pen im x y e =
     ∙ ap (set im (byteOf s x y)) (put-same (s .base) (digitOf s x) (getD im (byteOf s x y) 0))
     ∙ set-getD im (byteOf s x y) 0
 
-stores-idle : (s : Shape) (pen : Pen) (im : List ℕ) (qs : List Pixel) → ((q : Pixel) → In q qs → pen (seen s im q) ≡ seen s im q) → stores s pen im qs ≡ im
+stores-idle : (s : Shape) (pen : Pen) (im : List ℕ) (qs : List Pixel) → ((q : Pixel) → Among q qs → pen (seen s im q) ≡ seen s im q) → stores s pen im qs ≡ im
 unfolding stores
 stores-idle s pen im [] h = refl
 stores-idle s pen im (q ∷ qs) h =
     ap (λ (t : List ℕ). stores s pen t qs) (store-idle s pen im (natAbs (q .x .0)) (natAbs (q .y .0)) (h q (inl refl))) ∙ stores-idle s pen im qs (λ r k. h r (inr k))
 
-pub stores-again : (m : Machine) → Fits m → (im : List ℕ) → length im ≡ imageBytes → (ps qs : List Pixel) → ((q : Pixel) → In q qs → In q ps)
+pub stores-again : (m : Machine) → Fits m → (im : List ℕ) → length im ≡ imageBytes → (ps qs : List Pixel) → ((q : Pixel) → Among q qs → Among q ps)
     → stores square (penOf m) (stores square (penOf m) im (inside square ps)) (inside square qs) ≡ stores square (penOf m) im (inside square ps)
 stores-again m fits im l ps qs all =
     stores-idle square (penOf m) (stores square (penOf m) im (inside square ps)) (inside square qs)

@@ -21,20 +21,20 @@ use Rattle.definition.specs.declared.Instruction.the-variants.{Does, Draws}
 use Rattle.definition.proofs.Exactly.{apart}
 use Rattle.definition.proofs.Plain.{_so_, _and_, _or_, itself, back}
 use Rattle.definition.proofs.StepLaws.{on, step-done, step-refused, run-turn, run-stopped}
-use Rattle.demands.specs.Conditions.{During, more}
+use Rattle.demands.specs.Conditions.{Among, During, more}
 use Rattle.demands.specs.Ledger.{completed}
-use Rattle.demands.specs.Strokes.{In, Stroke, strokesOf, strokes, Lights}
+use Rattle.demands.specs.Strokes.{Stroke, strokesOf, strokes, Lights}
 use Rattle.demands.proofs.Members.{in-append, in-inside, in-strokes}
 use Rattle.demands.proofs.Strokes.{done-next}
 
 -- ---- one instruction
 module _ (g : Given) (m : Machine) (p : Pixel) (free : refusal g m ≡ 0) where
   -- a lit item with write on stores those of its pixels that are in the field, and no other instruction stores any
-  lights : In p (storedOf m (instruction g m) (more g m)) ↔ Lights g m p
+  lights : Among p (storedOf m (instruction g m) (more g m)) ↔ Lights g m p
   lights = by-kind (instruction g m) refl
     where
       by-item : (it : Item) (l w : Bool) → instruction g m ≡ Draws l it → m .write ≡ w
-          → In p (pick (l && w) (inside (shapeOf m) (itemPixels m it (more g m))) []) ↔ Lights g m p
+          → Among p (pick (l && w) (inside (shapeOf m) (itemPixels m it (more g m))) []) ↔ Lights g m p
       by-item it true true e on = in-inside (shapeOf m) p (itemPixels m it (more g m)) so (
         λ q. record { free = free; writing = on; item = it; lit = e; field = q .0; pixel = q .1 },
         λ r. (r .field, let same : r .item ≡ it = cc (e, r .lit) in rw same at (r .pixel)),
@@ -42,7 +42,7 @@ module _ (g : Given) (m : Machine) (p : Pixel) (free : refusal g m ≡ 0) where
       by-item it true false e off = (λ n. absurd n, λ r. absurd (apart (sym (r .writing) ∙ off)))
       by-item it false w e h = (λ n. absurd n, λ r. absurd (apart (cc (e, r .lit))))
 
-      by-kind : (i : Instruction) → instruction g m ≡ i → In p (storedOf m i (more g m)) ↔ Lights g m p
+      by-kind : (i : Instruction) → instruction g m ≡ i → Among p (storedOf m i (more g m)) ↔ Lights g m p
       by-kind (Does o) e = (λ n. absurd n, λ r. absurd (let z : _≡_ {A = ℕ} 0 1 = cc (e, r .lit) in omega arith))
       by-kind (Draws l it) e = by-item it l (m .write) e refl
 
@@ -86,7 +86,7 @@ module _ (g : Given) where
         later k d = rw (run-turn g k s r) d
 
   -- ---- the theorem
-  pub stroke-origin : (b : ℕ) (s : State) (t : Stroke) → In t (strokes g b s) ↔ During g b s (λ m. (t .machine ≡ m) × Lights g m (t .pixel))
+  pub stroke-origin : (b : ℕ) (s : State) (t : Stroke) → Among t (strokes g b s) ↔ During g b s (λ m. (t .machine ≡ m) × Lights g m (t .pixel))
   unfolding strokes completed
   stroke-origin zero s t = (λ n. absurd n, λ d. absurd (let l = d .1 .0 in omega arith))
   stroke-origin (suc b) s t = go (ℕ-discrete (s .machine .status) 0) (ℕ-discrete (refusal g (s .machine)) 0) (stroke-origin b (on g s) t)
@@ -94,7 +94,7 @@ module _ (g : Given) where
       P : Machine → Type 0
       P m = (t .machine ≡ m) × Lights g m (t .pixel)
 
-      go : Dec (s .machine .status ≡ 0) → Dec (refusal g (s .machine) ≡ 0) → In t (strokes g b (on g s)) ↔ During g b (on g s) P → In t (strokes g (suc b) s) ↔ During g (suc b) s P
+      go : Dec (s .machine .status ≡ 0) → Dec (refusal g (s .machine) ≡ 0) → Among t (strokes g b (on g s)) ↔ During g b (on g s) P → Among t (strokes g (suc b) s) ↔ During g (suc b) s P
       go (no h) d ih = (λ k. absurd (rw (strokes-stopped (suc b) s h) at k), λ q. absurd (never-stopped P (suc b) s h q))
       go (yes r) (no h) ih = (
         λ k. absurd (rw (strokes-refused b s r h) at k),

@@ -12,7 +12,7 @@ use Rattle.definition.specs.Choice.{pick, firstOf}
 use Rattle.definition.specs.File.{tag, segments, offset, size, keepBelow, headDoors, segmentDoors, fileDoors, segmentOf, placeOf, fetch}
 use Rattle.definition.specs.Image.{blank}
 use Rattle.definition.specs.Machine.{fresh}
-use Rattle.definition.specs.Calls.{plain, checkCall, runDoors, runDoor, runCall}
+use Rattle.definition.specs.Calls.{Lent, plain, withFile, checkCall, runDoors, runDoor, runCall}
 use Rattle.definition.specs.Plot.{wordsIn, inputDoors, plotBudget, plotLine}
 use Rattle.definition.specs.declared.Unfetched.the-variants.{Odd, NoSegment, NoPlace}
 use Rattle.definition.specs.declared.Fetched.{Fetched}
@@ -67,20 +67,20 @@ module _ (f g : List ℕ) (h : SameWords f g) where
   same-memory = fun-ext same-fetch
 
   -- of one length, accepted or refused
-  pub alike-run : length f ≡ length g → (m : Machine) (im : List ℕ) (b : ℕ) → runCall (plain f) m im b ≡ runCall (plain g) m im b
+  pub alike-run : length f ≡ length g → (l : Lent) (m : Machine) (im : List ℕ) (b : ℕ) → runCall (withFile l f) m im b ≡ runCall (withFile l g) m im b
   unfolding runCall runDoor runDoors
-  alike-run l m im b = rw (same-doors f g (h .headers) l, same-memory)
+  alike-run e l m im b = rw (same-doors f g (h .headers) e, same-memory)
 
   -- both files are accepted, so that their doors are open alike
-  module _ (p : Accepted f) (q : Accepted g) (m : Machine) (im : List ℕ) (b : ℕ) where
-    same-door : runDoor (plain f) m im b ≡ runDoor (plain g) m im b
+  module _ (p : Accepted f) (q : Accepted g) (l : Lent) (m : Machine) (im : List ℕ) (b : ℕ) where
+    same-door : runDoor (withFile l f) m im b ≡ runDoor (withFile l g) m im b
     unfolding runDoor runDoors checkCall fileDoors headDoors segmentDoors firstOf
     same-door =
         let c = none-holds (fileDoors f) refl .0 (check-0 f .1 p) in
         let d = none-holds (fileDoors g) refl .0 (check-0 g .1 q) in
         rw (c .0, c .1 .0, c .1 .1 .0, c .1 .1 .1 .0, c .1 .1 .1 .1 .0, d .0, d .1 .0, d .1 .1 .0, d .1 .1 .1 .0, d .1 .1 .1 .1 .0)
 
-    pub same-run : runCall (plain f) m im b ≡ runCall (plain g) m im b
+    pub same-run : runCall (withFile l f) m im b ≡ runCall (withFile l g) m im b
     unfolding runCall
     same-run = rw (same-door, same-memory)
 
@@ -99,7 +99,7 @@ pub alike-line : (cs bs : List ℕ) → SameWords (wordsIn cs) (wordsIn bs) → 
 unfolding plotLine inputDoors runDoors
 alike-line cs bs h l =
     let k = words-length cs bs l in
-    rw (l, same-doors (wordsIn cs) (wordsIn bs) (h .headers) k, alike-run (wordsIn cs) (wordsIn bs) h k fresh blank plotBudget)
+    rw (l, same-doors (wordsIn cs) (wordsIn bs) (h .headers) k, alike-run (wordsIn cs) (wordsIn bs) h k (plain (wordsIn cs)) fresh blank plotBudget)
 
 -- ---- for one: words after the end of an accepted file
 module _ (f more : List ℕ) (p : Accepted f) where
@@ -129,5 +129,5 @@ module _ (f more : List ℕ) (p : Accepted f) where
             record { after-header = omega arith; short = omega arith; inside = omega arith };
       }
 
-  pub appended-run : (m : Machine) (im : List ℕ) (b : ℕ) → runCall (plain f) m im b ≡ runCall (plain (f ++ more)) m im b
-  appended-run m im b = same-run f (f ++ more) appended-same p appended-accepted m im b
+  pub appended-run : (l : Lent) (m : Machine) (im : List ℕ) (b : ℕ) → runCall (withFile l f) m im b ≡ runCall (withFile l (f ++ more)) m im b
+  appended-run l m im b = same-run f (f ++ more) appended-same p appended-accepted l m im b

@@ -20,8 +20,8 @@ use Rattle.definition.specs.declared.Instruction.{Instruction}
 use Rattle.definition.specs.declared.Instruction.the-variants.{Does, Draws}
 use Rattle.definition.proofs.Plain.{_so_, not-true}
 use Rattle.definition.proofs.StepLaws.{pick-keeps, step-done, step-keeps}
-use Rattle.demands.specs.Conditions.{During, On, Off, word, more}
-use Rattle.demands.specs.Strokes.{In, Stroke, strokes, Lights, lightsBetween, Plots}
+use Rattle.demands.specs.Conditions.{Among, During, On, Off, word, more}
+use Rattle.demands.specs.Strokes.{Stroke, strokes, Lights, lightsBetween, Plots}
 use Rattle.demands.proofs.WordAnswers.{is-off}
 use Rattle.demands.proofs.Graphs.{clear-15}
 use Rattle.demands.proofs.Origins.{stroke-origin}
@@ -92,7 +92,7 @@ module _ (g : Given) (m : Machine) where
             data-word = d .0;
             lit = d .1 .0;
             field = r .field;
-            pixel = subst (In p) (ap (λ (it : Item). itemPixels m it (more g m)) (d .1 .1) ∙ by-mode (r .free) i) (r .pixel);
+            pixel = subst (Among p) (ap (λ (it : Item). itemPixels m it (more g m)) (d .1 .1) ∙ by-mode (r .free) i) (r .pixel);
           }
 
       back : Plots g m p → Lights g m p
@@ -104,7 +104,7 @@ module _ (g : Given) (m : Machine) where
             item = item (m .mode) (word g m);
             lit = i;
             field = r .field;
-            pixel = subst (In p) (sym (by-mode (r .free) i)) (r .pixel);
+            pixel = subst (Among p) (sym (by-mode (r .free) i)) (r .pixel);
           }
 
 -- ---- what a step stores, in order
@@ -136,7 +136,7 @@ module _ (g : Given) (m : Machine) where
       blank-none off = pick-keeps (λ i. storedOf m i (more g m) ≡ []) (bit 15 (word g m)) (λ e. refl) (λ e. rw (ne-eqb (word g m / 16384 % 2) 1 (λ q. omega arith)))
 
 -- so a stroke's origin, too
-pub stroke-in-words : (g : Given) (b : ℕ) (s : State) (t : Stroke) → In t (strokes g b s) ↔ During g b s (λ m. (t .machine ≡ m) × Plots g m (t .pixel))
+pub stroke-in-words : (g : Given) (b : ℕ) (s : State) (t : Stroke) → Among t (strokes g b s) ↔ During g b s (λ m. (t .machine ≡ m) × Plots g m (t .pixel))
 stroke-in-words g b s t =
     stroke-origin g b s t so (
       λ d. (d .0, (d .1 .0, (d .1 .1 .0, (d .1 .1 .1 .0, in-words g _ (t .pixel) .0 (d .1 .1 .1 .1))))),

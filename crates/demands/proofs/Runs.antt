@@ -10,7 +10,7 @@ use Rattle.definition.specs.Choice.{pick}
 use Rattle.definition.specs.Image.{stores}
 use Rattle.definition.specs.Machine.{withStatus}
 use Rattle.definition.specs.Step.{Given, refusal, step}
-use Rattle.definition.specs.Run.{nothing, summed, State, begun, after, run}
+use Rattle.definition.specs.Run.{nothing, summed, State, begun, withMachine, withCounts, after, run}
 use Rattle.definition.specs.declared.Machine.{Machine}
 use Rattle.definition.specs.declared.Counts.{Counts}
 use Rattle.definition.proofs.StepLaws.{pick-keeps, step-refused, on, run-stopped}
@@ -27,11 +27,11 @@ pick-plus false t x s = refl
 
 module _ (g : Given) where
   -- a refused instruction changes the status and nothing else
-  pub refused-only : (s : State) → (refusal g (s .machine) ≡ 0 → ⊥) → on g s ≡ record { machine = withStatus (s .machine) (refusal g (s .machine)); image = s .image; counts = s .counts }
+  pub refused-only : (s : State) → (refusal g (s .machine) ≡ 0 → ⊥) → on g s ≡ withMachine s (withStatus (s .machine) (refusal g (s .machine)))
   unfolding stores
   refused-only s h =
       ap (after s) (step-refused g (s .machine) h)
-      ∙ ap (λ (c : Counts). let t : State = record { machine = withStatus (s .machine) (refusal g (s .machine)); image = s .image; counts = c } in t) (summed-nothing (s .counts))
+      ∙ ap (withCounts (withMachine s (withStatus (s .machine) (refusal g (s .machine))))) (summed-nothing (s .counts))
 
   pub run-keeps : (P : State → Type 0) → ((s : State) → P s → P (on g s)) → (b : ℕ) (s : State) → P s → P (run g b s)
   unfolding run
@@ -65,7 +65,7 @@ module _ (g : Given) where
   run-twice b c m im =
       let r = run g b (begun m im) in
       run-add b c (begun m im)
-      ∙ ap (λ (t : Counts). run g c (record { machine = r .machine; image = r .image; counts = t })) (sym (summed-nothing (r .counts)))
+      ∙ ap (λ (t : Counts). run g c (withCounts r t)) (sym (summed-nothing (r .counts)))
       ∙ run-plus c (r .counts) (begun (r .machine) (r .image))
 
 -- ---- a run turn by turn: what holds of no turn, of a stopped machine and of a refusal, and of one more completed instruction, holds of every run with its ledger

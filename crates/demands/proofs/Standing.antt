@@ -1,18 +1,16 @@
 -- What stands at a pixel after strokes: what those at the pixel make of the digit before, one after the other.
-use Prim.Native.Nat.{ℕ, _/_, _<_}
+use Prim.Native.Nat.{ℕ, _<_}
 use mathlib.Core.Bool.{Bool, true, false}
 use mathlib.Core.List.{List, [], _∷_, _++_}
 use mathlib.Core.Path.{_≡_, refl, sym, ap, _∙_}
 use mathlib.Core.Logic.{_⊎_, inl, inr, ⊎-elim, _↔_}
-use native.Mathlib.Omega.{arith}
-use native.Mathlib.Nat.{mod-lt}
 use lib.ListN.{length}
 use lib.IntN.{ℤ, natAbs}
 use lib.Signed.{_≤ℤ_}
 use Rattle.whole.specs.Parts.{whole, abs}
 use Rattle.definition.specs.Choice.{pick}
 use Rattle.definition.specs.Units.{pixel}
-use Rattle.definition.specs.Image.{Shape, square, imageBytes, byteOf, digit, digitAt, store}
+use Rattle.definition.specs.Image.{Shape, square, imageBytes, store}
 use Rattle.definition.specs.Machine.{shapeOf, penOf}
 use Rattle.definition.specs.Step.{Given}
 use Rattle.definition.specs.Run.{State, run}
@@ -21,10 +19,10 @@ use Rattle.definition.specs.declared.Pixel.{Pixel}
 use Rattle.definition.specs.declared.Machine.{Machine}
 use Rattle.definition.proofs.Exactly.{apart}
 use Rattle.definition.proofs.Plain.{_so_, _and_, is-mostZ, both-true, failing}
-use Rattle.definition.proofs.StoreLaws.{store-length, store-reads-back, other-pixel}
-use Rattle.demands.specs.Conditions.{InField, Fits, During}
-use Rattle.demands.specs.Strokes.{In, Stroke, stroked, drawn, strokes, Plots, seen, sameNumber, samePixel, standing, Unstruck}
-use Rattle.demands.proofs.Kept.{pen-low, run-fits, run-length}
+use Rattle.definition.proofs.StoreLaws.{store-length, Sound, square-sound, store-reads-back, other-pixel, Fitting, left-low}
+use Rattle.demands.specs.Conditions.{Among, InField, Fits, During}
+use Rattle.demands.specs.Strokes.{Stroke, stroked, drawn, strokes, Plots, seen, sameNumber, samePixel, standing, Unstruck}
+use Rattle.demands.proofs.Kept.{pen-fits, run-fits, run-length}
 use Rattle.demands.proofs.Members.{in-append}
 use Rattle.demands.proofs.OtherCalls.{reads-alike}
 use Rattle.demands.proofs.Strokes.{run-image}
@@ -49,21 +47,11 @@ same-pixel {p} {q} =
     both-true so same-number and same-number
     so (λ w. ap (λ (z : ℤ). pixel z (p .y .0)) (w .0) ∙ ap (pixel (q .x .0)) (w .1), λ e. (ap (λ (r : Pixel). r .x .0) e, ap (λ (r : Pixel). r .y .0) e))
 
--- ---- a shape whose field lies in so many bytes
-pub record Holds (h : Shape) (bytes : ℕ) : Type 0 where
-  pub row : (x : ℕ) → x < h .width → x / h .digits < h .row
-  pub all : (x y : ℕ) → x < h .width → y < h .height → byteOf h x y < bytes
-  pub some : 0 < h .base
-
-pub square-holds : Holds square imageBytes
-unfolding byteOf
-square-holds = record { row = λ x p. omega arith; all = λ x y p q. omega arith; some = omega arith }
-
--- a stroke of this shape, in its field, that leaves one of its digits where it finds one
+-- ---- a stroke of this shape, in its field, that leaves one of its digits where it finds one
 pub record Keeps (h : Shape) (t : Stroke) : Type 0 where
   pub shape : shapeOf (t .machine) ≡ h
   pub field : InField h (t .pixel)
-  pub low : (d : ℕ) → d < h .base → penOf (t .machine) d < h .base
+  pub pen : Fitting (h .base) (penOf (t .machine))
 
 module _ (h : Shape) (p : Pixel) (f : InField h p) where
   pub across : natAbs (p .x .0) < h .width
@@ -84,24 +72,23 @@ module _ (h : Shape) (p : Pixel) (f : InField h p) where
       ap (λ (z : ℤ). pixel z (p .y .0)) x ∙ ap (pixel (q .x .0)) y
 
 -- ---- one stroke, and strokes one after the other
-module _ (h : Shape) (bytes : ℕ) (ok : Holds h bytes) (p : Pixel) (f : InField h p) where
-  seen-low : (im : List ℕ) (q : Pixel) → seen h im q < h .base
-  unfolding digitAt digit
-  seen-low im q = mod-lt _ (ok .some)
-
-  one-stroke : (im : List ℕ) (t : Stroke) → length im ≡ bytes → Keeps h t → seen h (stroked im t) p ≡ pick (samePixel p (t .pixel)) (penOf (t .machine) (seen h im p)) (seen h im p)
+module _ (h : Shape) (ok : Sound h) (p : Pixel) (f : InField h p) where
+  one-stroke : (im : List ℕ) (t : Stroke) → length im ≡ imageBytes → Keeps h t → seen h (stroked im t) p ≡ pick (samePixel p (t .pixel)) (penOf (t .machine) (seen h im p)) (seen h im p)
   one-stroke im t l k = rw (k .shape) (go (samePixel p q) refl)
     where
       q : Pixel
       q = t .pixel
 
+      low : penOf (t .machine) (seen h im q) < h .base
+      low = left-low h (penOf (t .machine)) (k .pen) im (natAbs (q .x .0)) (natAbs (q .y .0))
+
       go : (b : Bool) → samePixel p q ≡ b → seen h (store h (penOf (t .machine)) im (natAbs (q .x .0)) (natAbs (q .y .0))) p ≡ pick b (penOf (t .machine) (seen h im p)) (seen h im p)
-      go true e = rw (same-pixel {p = p} {q = q} .0 e) (store-reads-back h (penOf (t .machine)) im _ _ (rw l (ok .all _ _ (across h q (k .field)) (upward h q (k .field)))) (k .low (seen h im q) (seen-low im q)))
+      go true e = rw (same-pixel {p = p} {q = q} .0 e) (store-reads-back h (penOf (t .machine)) im _ _ (rw l (ok .room _ _ (across h q (k .field)) (upward h q (k .field)))) low)
       go false e =
-          other-pixel h (penOf (t .machine)) im _ _ _ _ (ok .row _ (across h q (k .field))) (ok .row _ (across h p f)) (k .low (seen h im q) (seen-low im q))
+          other-pixel h (penOf (t .machine)) im _ _ _ _ (ok .row _ (across h q (k .field))) (ok .row _ (across h p f)) low
           (λ a b. apart (sym (same-pixel {p = p} {q = q} .1 (by-sizes h p f q (k .field) a b)) ∙ e))
 
-  pub drawn-stands : (im : List ℕ) (ts : List Stroke) → length im ≡ bytes → ((t : Stroke) → In t ts → Keeps h t) → seen h (drawn im ts) p ≡ standing p (seen h im p) ts
+  pub drawn-stands : (im : List ℕ) (ts : List Stroke) → length im ≡ imageBytes → ((t : Stroke) → Among t ts → Keeps h t) → seen h (drawn im ts) p ≡ standing p (seen h im p) ts
   drawn-stands im [] l k = refl
   drawn-stands im (t ∷ ts) l k =
       drawn-stands (stroked im t) ts (store-length (shapeOf (t .machine)) (penOf (t .machine)) im _ _ ∙ l) (λ u m. k u (inr m))
@@ -109,7 +96,7 @@ module _ (h : Shape) (bytes : ℕ) (ok : Holds h bytes) (p : Pixel) (f : InField
 
 -- a stroke by a machine in range, in the field
 pub fits-keeps : (t : Stroke) → Fits (t .machine) → InField square (t .pixel) → Keeps square t
-fits-keeps t fits f = record { shape = refl; field = f; low = λ d e. pen-low (t .machine) fits }
+fits-keeps t fits f = record { shape = refl; field = f; pen = pen-fits (t .machine) fits }
 
 -- ---- the fold: with no stroke at the pixel, and with a last one
 pub none-stands : (p : Pixel) (d : ℕ) (ts : List Stroke) → Unstruck p ts → standing p d ts ≡ d
@@ -146,7 +133,7 @@ none-or-last p (t ∷ ts) = ⊎-elim (λ h. go (samePixel p (t .pixel)) refl h) 
 
 -- ---- a run
 module _ (g : Given) (b : ℕ) (s : State) (fits : Fits (s .machine)) where
-  pub run-keeps-strokes : (t : Stroke) → In t (strokes g b s) → Keeps square t
+  pub run-keeps-strokes : (t : Stroke) → Among t (strokes g b s) → Keeps square t
   run-keeps-strokes t h =
       let d = stroke-origin g b s t .0 h in
       let same = d .1 .1 .1 .0 in
@@ -154,7 +141,7 @@ module _ (g : Given) (b : ℕ) (s : State) (fits : Fits (s .machine)) where
 
   module _ (l : length (s .image) ≡ imageBytes) (p : Pixel) (f : InField square p) where
     pub what-stands : seen square (run g b s .image) p ≡ standing p (seen square (s .image) p) (strokes g b s)
-    what-stands = ap (λ (im : List ℕ). seen square im p) (run-image g b s) ∙ drawn-stands square imageBytes square-holds p f (s .image) (strokes g b s) l run-keeps-strokes
+    what-stands = ap (λ (im : List ℕ). seen square im p) (run-image g b s) ∙ drawn-stands square square-sound p f (s .image) (strokes g b s) l run-keeps-strokes
 
     pub unstruck-stays : Unstruck p (strokes g b s) → seen square (run g b s .image) p ≡ seen square (s .image) p
     unstruck-stays h = what-stands ∙ none-stands p (seen square (s .image) p) (strokes g b s) h
@@ -172,7 +159,7 @@ module _ (g : Given) (b : ℕ) (s : State) (fits : Fits (s .machine)) where
             let t = l .1 .0 in
             let e = l .1 .1 .1 .0 in
             let at = l .1 .1 .1 .1 .0 in
-            let i : In t (strokes g b s) = rw e (in-append t (l .0) (t ∷ l .1 .1 .0) .1 (inr (inl refl))) in
+            let i : Among t (strokes g b s) = rw e (in-append t (l .0) (t ∷ l .1 .1 .0) .1 (inr (inl refl))) in
             let d = stroke-in-words g b s t .0 i in
             let v = last-stroke-stands (l .0) (l .1 .1 .0) t e at (l .1 .1 .1 .1 .1) in
             (d .0, (d .1 .0, (d .1 .1 .0, (rw at (d .1 .1 .1 .1), sym (ap (λ (m : Machine). m .value) (d .1 .1 .1 .0)) ∙ sym v))))

@@ -1,15 +1,17 @@
 -- The answers of a step, each exactly when.
 use Prim.Native.Nat.{ℕ, _≤_, _<_, _/_, _%_, _^_}
-use mathlib.Core.Bool.{Bool, true, false, not, _&&_}
+use mathlib.Core.Bool.{Bool, true, false, not}
+use mathlib.Core.List.{List, [], _∷_, _++_}
 use mathlib.Core.Path.{_≡_, refl, sym, ap, _∙_}
 use mathlib.Core.Logic.{_⊎_, inl, inr, ⊎-elim, _↔_}
 use native.Mathlib.Omega.{arith}
 use native.Mathlib.Decide.{ℕ-discrete}
 use lib.Dec.{eqb, leb}
 use borrow.Author.Tests.{eq-eqb, eqb-true, leb-true}
-use Rattle.definition.specs.Choice.{pick}
+use Rattle.definition.specs.Choice.{pick, among, Test, firstOf, onlyIf}
 use Rattle.definition.specs.File.{numberIn, fetchRefusals}
-use Rattle.definition.specs.Words.{none, bit, code, setsMode, notBuilt, order, decode, hasSecond, firstRefusals, secondRefusals}
+use Rattle.definition.specs.Words.{bit, code, setsMode, order, decode, isPaired, hasSecond, firstRefusals, secondRefusals}
+use Rattle.definition.specs.Machine.{refusalNumbers}
 use Rattle.definition.specs.Step.{Change, changed, leaves, ordered, done, Given, first, second, instruction, wayRefusals, refusals, refusal, Step, step}
 use Rattle.definition.specs.Step.Change.{Stay, Set, Move}
 use Rattle.definition.specs.declared.Units.{Units}
@@ -17,53 +19,43 @@ use Rattle.definition.specs.declared.Machine.{Machine}
 use Rattle.definition.specs.declared.Unfetched.the-variants.{Odd, NoSegment, NoPlace}
 use Rattle.definition.specs.declared.Fetched.{Fetched}
 use Rattle.definition.specs.declared.Fetched.the-variants.{Word, Refused}
+use Rattle.definition.specs.declared.Instruction.{Instruction}
 use Rattle.definition.specs.declared.Order.{Order}
 use Rattle.definition.specs.declared.Order.the-variants.{SetMode, Jump, NoOp, StatusA, Increment, StatusC}
-use Rattle.definition.proofs.Exactly.{apart, Answers, exactly, none-holds}
-use Rattle.definition.proofs.Plain.{_so_, _and_, _or_, itself, back, is-equal, not-equal, not-true, not-false, both-true, either-true, either-false, failing, never, implies, unless, over}
-use Rattle.demands.specs.Conditions.{InRange, Fits, On, Off, NotBuilt, NoMode, Pair, word, more, Begins, Continues, FetchRefused, taken, newX, newY, Stops, stopNumber, LatchIs}
+use Rattle.definition.proofs.Exactly.{apart, names, exactly, none-holds, in-either, in-later, in-first, asked-if}
+use Rattle.definition.proofs.Plain.{_so_, _and_, _or_, itself, back, is-equal, not-equal, not-true, not-false, both-true, either-true, either-false, failing, never, implies, _nor_, last}
+use Rattle.demands.specs.Conditions.{InRange, Fits, On, Off, NotBuilt, NoMode, FirstRefused, Pair, TwoWords, word, more, Begins, Continues, FetchRefused, taken, newX, newY, Stops, stopNumber, LatchIs}
 use Rattle.definition.proofs.StepLaws.{pick-keeps, step-done, step-refused, refusal-is}
 use Rattle.demands.proofs.Kept.{in-range}
 use Rattle.demands.proofs.WordAnswers.{is-off, not-built, no-mode, is-pair, has-second, is-status-a}
 
--- ---- a fetch: no refusal, or this one
-abbrev asked : ℕ → Fetched → Bool
-asked n got = eqb (numberIn got) n
-
-abbrev Passed : Fetched → Type 0 → Type 0
-Passed got G = (asked 21 got ≡ false) × ((asked 22 got ≡ false) × ((asked 23 got ≡ false) × G))
-
 wrong : {A : Type 0} → _≡_ {A = Bool} true false → A
 wrong e = absurd (apart e)
 
-passed : {G H : Type 0} (got : Fetched) → G ↔ H → Passed got G ↔ ((numberIn got ≡ 0) × H)
-passed (Word w) p = (λ q. (refl, p .0 (q .1 .1 .1)), λ q. (refl, (refl, (refl, p .1 (q .1)))))
-passed (Refused Odd) p = (λ q. wrong (q .0), λ q. absurd (let z = q .0 in omega arith))
-passed (Refused NoSegment) p = (λ q. wrong (q .1 .0), λ q. absurd (let z = q .0 in omega arith))
-passed (Refused NoPlace) p = (λ q. wrong (q .1 .1 .0), λ q. absurd (let z = q .0 in omega arith))
+-- ---- a group of tests: a fetch's, and one that is asked only where t holds
+by-fetch : (got : Fetched) → firstOf (fetchRefusals got) ≡ numberIn got
+unfolding firstOf fetchRefusals
+by-fetch (Word w) = refl
+by-fetch (Refused Odd) = refl
+by-fetch (Refused NoSegment) = refl
+by-fetch (Refused NoPlace) = refl
 
-at-22 : (got : Fetched) → ((asked 21 got ≡ false) × (asked 22 got ≡ true)) ↔ (numberIn got ≡ 22)
-at-22 got = (λ q. is-equal .0 (q .1), λ e. (rw e refl, rw e refl))
+fetch-is : (got : Fetched) {n : ℕ} → (firstOf (fetchRefusals got) ≡ n) ↔ (numberIn got ≡ n)
+fetch-is got = (λ q. sym (by-fetch got) ∙ q, λ q. by-fetch got ∙ q)
 
-at-23 : (got : Fetched) → ((asked 21 got ≡ false) × ((asked 22 got ≡ false) × (asked 23 got ≡ true))) ↔ (numberIn got ≡ 23)
-at-23 got = (λ q. is-equal .0 (q .1 .1), λ e. (rw e refl, (rw e refl, rw e refl)))
+passes-if : (t : Bool) (ts : List Test) → (firstOf (onlyIf t ts) ≡ 0) ↔ (t ≡ true → firstOf ts ≡ 0)
+passes-if t ts = rw (asked-if t ts) (go t)
+  where
+    go : (t : Bool) → (pick t (firstOf ts) 0 ≡ 0) ↔ (t ≡ true → firstOf ts ≡ 0)
+    go true = (λ q e. q, λ h. h refl)
+    go false = (λ q e. wrong (sym e), λ h. refl)
 
--- a second fetch is asked only where there is one: t
-passed-if : {G H : Type 0} (t : Bool) (got : Fetched) → G ↔ H
-    → ((t && asked 21 got ≡ false) × ((t && asked 22 got ≡ false) × ((t && asked 23 got ≡ false) × G))) ↔ ((t ≡ true → numberIn got ≡ 0) × H)
-passed-if true got p = passed got p so (λ q e. q, λ q. q refl) and itself
-passed-if false got p = (λ q. (λ e. wrong (sym e), p .0 (q .1 .1 .1)), λ q. (refl, (refl, (refl, p .1 (q .1)))))
-
-only : {A : Type 0} → A ↔ ((_≡_ {A = Bool} true true) × A)
-only = (λ a. (refl, a), λ q. q .1)
-
-at-22-if : (t : Bool) (got : Fetched) → ((t && asked 21 got ≡ false) × (t && asked 22 got ≡ true)) ↔ ((t ≡ true) × (numberIn got ≡ 22))
-at-22-if true got = at-22 got so only
-at-22-if false got = (λ q. wrong (sym (q .1)), λ q. wrong (sym (q .0)))
-
-at-23-if : (t : Bool) (got : Fetched) → ((t && asked 21 got ≡ false) × ((t && asked 22 got ≡ false) × (t && asked 23 got ≡ true))) ↔ ((t ≡ true) × (numberIn got ≡ 23))
-at-23-if true got = at-23 got so only
-at-23-if false got = (λ q. wrong (sym (q .1 .1)), λ q. wrong (sym (q .0)))
+answers-if : (t : Bool) (ts : List Test) (n : ℕ) → 0 < n → (firstOf (onlyIf t ts) ≡ n) ↔ ((t ≡ true) × (firstOf ts ≡ n))
+answers-if t ts n p = rw (asked-if t ts) (go t)
+  where
+    go : (t : Bool) → (pick t (firstOf ts) 0 ≡ n) ↔ ((t ≡ true) × (firstOf ts ≡ n))
+    go true = (λ q. (refl, q), λ w. w .1)
+    go false = (λ q. absurd (omega arith), λ w. wrong (sym (w .0)))
 
 -- ---- 27 for a coordinate in range
 leaving : {u : Units} (c : Change) → InRange u → (leaves u c ≡ true) ↔ (InRange (changed u c) → ⊥)
@@ -87,65 +79,105 @@ module _ (g : Given) (m : Machine) where
   abbrev v : ℕ
   v = more g m
 
-  exact : (n : ℕ) → 0 < n → (refusal g m ≡ n) ↔ Answers n (refusals m (first g m) (instruction g m) (second g m))
-  unfolding refusal
-  exact n p = exactly n (refusals m (first g m) (instruction g m) (second g m)) p
+  abbrev i : Instruction
+  i = instruction g m
 
-  -- the first fetch gives a word, and neither 24 nor 25 is for it
-  begun : {G H : Type 0} → G ↔ H
-      → Passed (first g m) ((bit 15 w && notBuilt (code w) ≡ false) × ((not (bit 15 w) && eqb (m .mode) none ≡ false) × G)) ↔ (Begins g m × H)
-  begun p =
-      passed (first g m) ((failing so never (not-built w)) and (failing so never (no-mode (m .mode) w)) and p)
-      so (λ q. (record { fetched = q .0; built = q .1 .0; moded = q .1 .1 .0 }, q .1 .1 .1), λ q. (q .0 .fetched, (q .0 .built, (q .0 .moded, q .1))))
+  -- the groups: first fetch, first word, second fetch, second word, move
+  abbrev fetch1 : List Test
+  fetch1 = fetchRefusals (first g m)
 
-  refused-21 : (refusal g m ≡ 21) ↔ FetchRefused 21 g m
-  unfolding refusals fetchRefusals firstRefusals secondRefusals wayRefusals
-  refused-21 = exact 21 (omega arith) so is-equal or begun (both-true so has-second (m .mode) w and is-equal)
+  abbrev word1 : List Test
+  word1 = firstRefusals (m .mode) w
 
-  refused-22 : (refusal g m ≡ 22) ↔ FetchRefused 22 g m
-  unfolding refusals fetchRefusals firstRefusals secondRefusals wayRefusals
-  refused-22 = exact 22 (omega arith) so over so at-22 (first g m) or begun (at-22-if (hasSecond (instruction g m)) (second g m) so has-second (m .mode) w and itself)
+  abbrev fetch2 : List Test
+  fetch2 = onlyIf (hasSecond i) (fetchRefusals (second g m))
 
-  refused-23 : (refusal g m ≡ 23) ↔ FetchRefused 23 g m
-  unfolding refusals fetchRefusals firstRefusals secondRefusals wayRefusals
-  refused-23 = exact 23 (omega arith) so itself and over so over so at-23 (first g m) or begun (at-23-if (hasSecond (instruction g m)) (second g m) so has-second (m .mode) w and itself)
+  abbrev word2 : List Test
+  word2 = onlyIf (isPaired i) (secondRefusals v)
 
-  refused-24 : (refusal g m ≡ 24) ↔ ((numberIn (first g m) ≡ 0) × NotBuilt w)
-  unfolding refusals fetchRefusals firstRefusals secondRefusals wayRefusals
-  refused-24 = exact 24 (omega arith) so passed (first g m) (not-built w)
+  abbrev going : List Test
+  going = wayRefusals m (taken g m) ++ []
 
-  refused-25 : (refusal g m ≡ 25) ↔ ((numberIn (first g m) ≡ 0) × NoMode (m .mode) w)
-  unfolding refusals fetchRefusals firstRefusals secondRefusals wayRefusals
+  -- what it says of a group that none of its tests holds
+  word-passes : (firstOf word1 ≡ 0) ↔ (FirstRefused (m .mode) w → ⊥)
+  unfolding firstRefusals
+  word-passes = none-holds word1 refl so not-built w nor last (no-mode (m .mode) w)
+
+  more-passes : (firstOf fetch2 ≡ 0) ↔ (TwoWords (m .mode) w → numberIn (second g m) ≡ 0)
+  more-passes = passes-if (hasSecond i) (fetchRefusals (second g m)) so implies (has-second (m .mode) w) (fetch-is (second g m))
+
+  pair-passes : (firstOf word2 ≡ 0) ↔ (Pair (m .mode) w → Off 15 v)
+  unfolding secondRefusals
+  pair-passes = passes-if (isPaired i) (secondRefusals v) so implies (is-pair (m .mode) w) (none-holds (secondRefusals v) refl so (λ q. off v .0 (q .0), λ q. (off v .1 q, tt)))
+
+  -- up to the second fetch, and from there to the move; n is no number of what is passed
+  past-first : (n : ℕ) → names n fetch1 ≡ false → names n word1 ≡ false → (refusal g m ≡ n) ↔ (Begins g m × (firstOf (fetch2 ++ (word2 ++ going)) ≡ n))
+  unfolding refusal refusals fetchRefusals firstRefusals
+  past-first n k l =
+      in-later n fetch1 (word1 ++ (fetch2 ++ (word2 ++ going))) refl k
+      so fetch-is (first g m) and (in-later n word1 (fetch2 ++ (word2 ++ going)) refl l so word-passes and itself)
+      so (λ q. (record { fetched = q .0; taken = q .1 .0 }, q .1 .1), λ q. (q .0 .fetched, (q .0 .taken, q .1)))
+
+  past-second : (n : ℕ) → names n fetch1 ≡ false → names n word1 ≡ false → names n fetch2 ≡ false → names n word2 ≡ false → (refusal g m ≡ n) ↔ (Continues g m × (firstOf going ≡ n))
+  unfolding fetchRefusals secondRefusals
+  past-second n k l p q =
+      past-first n k l
+      so itself and (in-later n fetch2 (word2 ++ going) refl p so more-passes and (in-later n word2 going refl q so pair-passes and itself))
+      so (λ w. (record { begins = w .0; fetched = w .1 .0; clear = w .1 .1 .0 }, w .1 .1 .1), λ w. (w .0 .begins, (w .0 .fetched, (w .0 .clear, w .1))))
+
+  -- a number of fetches; and a number of first words
+  by-a-fetch : (n : ℕ) → 0 < n → names n word1 ≡ false → names n (word2 ++ going) ≡ false → (refusal g m ≡ n) ↔ FetchRefused n g m
+  unfolding refusal refusals fetchRefusals firstRefusals
+  by-a-fetch n p k l =
+      in-either n fetch1 (word1 ++ (fetch2 ++ (word2 ++ going))) refl p
+      so fetch-is (first g m)
+      or (fetch-is (first g m) and (in-later n word1 (fetch2 ++ (word2 ++ going)) refl k so word-passes and (in-first n fetch2 (word2 ++ going) refl p l so answers-if (hasSecond i) (fetchRefusals (second g m)) n p so has-second (m .mode) w and fetch-is (second g m)))
+      so (λ q. (record { fetched = q .0; taken = q .1 .0 }, q .1 .1), λ q. (q .0 .fetched, (q .0 .taken, q .1))))
+
+  by-a-word : (n : ℕ) → 0 < n → names n fetch1 ≡ false → names n (fetch2 ++ (word2 ++ going)) ≡ false → (refusal g m ≡ n) ↔ ((numberIn (first g m) ≡ 0) × (firstOf word1 ≡ n))
+  unfolding refusal refusals fetchRefusals firstRefusals
+  by-a-word n p k l = in-later n fetch1 (word1 ++ (fetch2 ++ (word2 ++ going))) refl k so fetch-is (first g m) and in-first n word1 (fetch2 ++ (word2 ++ going)) refl p l
+
+  -- ---- number by number
+  pub refused-21 : (refusal g m ≡ 21) ↔ FetchRefused 21 g m
+  unfolding fetchRefusals firstRefusals secondRefusals wayRefusals
+  refused-21 = by-a-fetch 21 (omega arith) refl refl
+
+  pub refused-22 : (refusal g m ≡ 22) ↔ FetchRefused 22 g m
+  unfolding fetchRefusals firstRefusals secondRefusals wayRefusals
+  refused-22 = by-a-fetch 22 (omega arith) refl refl
+
+  pub refused-23 : (refusal g m ≡ 23) ↔ FetchRefused 23 g m
+  unfolding fetchRefusals firstRefusals secondRefusals wayRefusals
+  refused-23 = by-a-fetch 23 (omega arith) refl refl
+
+  pub refused-24 : (refusal g m ≡ 24) ↔ ((numberIn (first g m) ≡ 0) × NotBuilt w)
+  unfolding fetchRefusals firstRefusals secondRefusals wayRefusals
+  refused-24 = by-a-word 24 (omega arith) refl refl so itself and (exactly 24 word1 (omega arith) so not-built w)
+
+  pub refused-25 : (refusal g m ≡ 25) ↔ ((numberIn (first g m) ≡ 0) × NoMode (m .mode) w)
+  unfolding fetchRefusals firstRefusals secondRefusals wayRefusals
   refused-25 =
-      exact 25 (omega arith) so passed (first g m) ((failing so never (not-built w)) and no-mode (m .mode) w)
+      by-a-word 25 (omega arith) refl refl so itself and (exactly 25 word1 (omega arith) so (failing so never (not-built w)) and no-mode (m .mode) w)
       so itself and (λ q. q .1, λ q. (λ b. let on = b .0 in let off = q .0 in omega arith, q))
 
-  refused-26 : (refusal g m ≡ 26) ↔ (Begins g m × ((numberIn (second g m) ≡ 0) × (Pair (m .mode) w × On 15 v)))
-  unfolding refusals fetchRefusals firstRefusals secondRefusals wayRefusals
+  pub refused-26 : (refusal g m ≡ 26) ↔ (Begins g m × ((numberIn (second g m) ≡ 0) × (Pair (m .mode) w × On 15 v)))
+  unfolding fetchRefusals firstRefusals secondRefusals wayRefusals
   refused-26 =
-      exact 26 (omega arith) so begun (passed-if (hasSecond (instruction g m)) (second g m) (both-true so is-pair (m .mode) w and is-equal) so implies (has-second (m .mode) w) itself and itself)
+      past-first 26 refl refl
+      so itself and (in-later 26 fetch2 (word2 ++ going) refl refl so more-passes and (in-first 26 word2 going refl (omega arith) refl so answers-if (isPaired i) (secondRefusals v) 26 (omega arith) so is-pair (m .mode) w and (exactly 26 (secondRefusals v) (omega arith) so is-equal)))
       so itself and (λ q. (q .0 (inr (q .1 .0)), q .1), λ q. (λ e. q .0, q .1))
 
-  refused-27 : Fits m → (refusal g m ≡ 27) ↔ (Continues g m × ((InRange (newX g m) → ⊥) ⊎ (InRange (newY g m) → ⊥)))
-  unfolding refusals fetchRefusals firstRefusals secondRefusals wayRefusals
-  refused-27 f =
-      exact 27 (omega arith)
-      so begun (
-      passed-if (hasSecond (instruction g m)) (second g m) ((unless so implies (is-pair (m .mode) w) (off v)) and (either-true so leaving (taken g m .x) (f .x) or leaving (taken g m .y) (f .y)))
-      so implies (has-second (m .mode) w) itself and itself
-      )
-      so (λ q. (record { begins = q .0; fetched = q .1 .0; clear = q .1 .1 .0 }, q .1 .1 .1), λ q. (q .0 .begins, (q .0 .fetched, (q .0 .clear, q .1))))
+  pub refused-27 : Fits m → (refusal g m ≡ 27) ↔ (Continues g m × ((InRange (newX g m) → ⊥) ⊎ (InRange (newY g m) → ⊥)))
+  unfolding fetchRefusals firstRefusals secondRefusals wayRefusals
+  refused-27 f = past-second 27 refl refl refl refl so itself and (exactly 27 going (omega arith) so either-true so leaving (taken g m .x) (f .x) or leaving (taken g m .y) (f .y))
 
   -- and no refusal: the step completes
   pub refused-0 : Fits m → (refusal g m ≡ 0) ↔ (Continues g m × (InRange (newX g m) × InRange (newY g m)))
-  unfolding refusal refusals fetchRefusals firstRefusals secondRefusals wayRefusals
+  unfolding fetchRefusals firstRefusals secondRefusals wayRefusals
   refused-0 f =
-      none-holds (refusals m (first g m) (instruction g m) (second g m)) refl
-      so begun (
-      passed-if (hasSecond (instruction g m)) (second g m) ((unless so implies (is-pair (m .mode) w) (off v)) and (either-false so staying (taken g m .x) (f .x) and staying (taken g m .y) (f .y)) and itself)
-      so implies (has-second (m .mode) w) itself and itself
-      )
-      so (λ q. (record { begins = q .0; fetched = q .1 .0; clear = q .1 .1 .0 }, q .1 .1 .1 .0), λ q. (q .0 .begins, (q .0 .fetched, (q .0 .clear, (q .1, tt)))))
+      past-second 0 refl refl refl refl
+      so itself and (none-holds going refl so (either-false so staying (taken g m .x) (f .x) and staying (taken g m .y) (f .y)) and itself so (λ q. q .0, λ q. (q, tt)))
 
 -- ---- the status after a step of a running machine: what it is refused for, or how it stops
 -- the status that an instruction leaves
@@ -171,17 +203,17 @@ order-stops : (m : Machine) (w n : ℕ) → m .status ≡ 0 → (n ≡ 0 → ⊥
     → (stopped m (order w) ≡ n) ↔ ((code w ≡ 14) × (pick (bit 10 w) (pick (pick (bit 9 w) (bit 8 w) (m .latch)) 2 1) (m .status) ≡ n))
 unfolding order setsMode
 order-stops m w n z p =
-    pick-keeps P (setsMode (code w)) (λ e. nor (λ q. let l = leb-true (code w) 6 (both-true {s = leb 1 (code w)} .0 e .1) in omega arith))
-    λ a. pick-keeps P (eqb (code w) 12) (λ e. let c = eqb-true (code w) 12 e in nor (λ q. omega arith))
-    λ b. pick-keeps P (eqb (code w) 13) (λ e. let c = eqb-true (code w) 13 e in nor (λ q. omega arith))
+    pick-keeps P (setsMode (code w)) (λ e. other (λ q. let l = leb-true (code w) 6 (both-true {s = leb 1 (code w)} .0 e .1) in omega arith))
+    λ a. pick-keeps P (eqb (code w) 12) (λ e. let c = eqb-true (code w) 12 e in other (λ q. omega arith))
+    λ b. pick-keeps P (eqb (code w) 13) (λ e. let c = eqb-true (code w) 13 e in other (λ q. omega arith))
     λ c. pick-keeps P (eqb (code w) 14) (λ e. (λ h. (is-equal .0 e, h), λ q. q .1))
-    λ d. let o = not-equal .0 d in pick-keeps P (bit 10 w) (λ e. nor o) (λ e. nor o)
+    λ d. let o = not-equal .0 d in pick-keeps P (bit 10 w) (λ e. other o) (λ e. other o)
   where
     P : Order → Type 0
     P o = (stopped m o ≡ n) ↔ ((code w ≡ 14) × (pick (bit 10 w) (pick (pick (bit 9 w) (bit 8 w) (m .latch)) 2 1) (m .status) ≡ n))
 
-    nor : {A : Type 0} → (code w ≡ 14 → ⊥) → (m .status ≡ n) ↔ ((code w ≡ 14) × A)
-    nor h = (λ e. absurd (p (sym e ∙ z)), λ q. absurd (h (q .0)))
+    other : {A : Type 0} → (code w ≡ 14 → ⊥) → (m .status ≡ n) ↔ ((code w ≡ 14) × A)
+    other h = (λ e. absurd (p (sym e ∙ z)), λ q. absurd (h (q .0)))
 
 -- the latch as it stands after the word
 bit-is : (b : Bool) (n : ℕ) → (eqb (n % 2) 1 ≡ b) ↔ pick b (n % 2 ≡ 1) (n % 2 ≡ 0)
@@ -232,7 +264,7 @@ module _ (g : Given) (m : Machine) (f : Fits m) (running : m .status ≡ 0) wher
       let e = is-status-a (m .mode) (word g m) on c in
       refused-0 g m f .1 (
         record {
-          begins = record { fetched = z; built = λ q. ⊎-elim (λ h. omega arith) (λ h. let k = h .1 in omega arith) (q .1); moded = λ q. let o = q .0 in omega arith };
+          begins = record { fetched = z; taken = ⊎-elim (λ q. ⊎-elim (λ h. omega arith) (λ h. let k = h .1 in omega arith) (q .1)) (λ q. let o = q .0 in omega arith) };
           fetched = λ q. absurd (⊎-elim (λ h. let k = h .1 in omega arith) (λ h. let o = h .0 in omega arith) q);
           clear = λ q. absurd (let o = q .0 in omega arith);
         },
@@ -260,7 +292,7 @@ module _ (g : Given) (m : Machine) (f : Fits m) (running : m .status ≡ 0) wher
       )
       go (no h) = (λ q. sym (refused-status h) ∙ q, λ q. refused-status h ∙ q)
 
-  -- ---- the answers, number by number
+  -- ---- a stop
   pub step-stops : (b : Bool) → (status ≡ stopNumber b) ↔ ((numberIn (first g m) ≡ 0) × (Stops (word g m) × LatchIs b m (word g m)))
   step-stops b = (λ q. there q (ℕ-discrete (refusal g m) 0), λ q. completed-status (free-stop (q .0) (q .1 .0 .0) (q .1 .0 .1 .0)) ∙ chain .1 (q .1))
     where
@@ -270,31 +302,10 @@ module _ (g : Given) (m : Machine) (f : Fits m) (running : m .status ≡ 0) wher
           so itself and (order-stops m (word g m) (stopNumber b) running (stop-some b) so itself and (stop-is b _ _ (m .status) running so is-equal and latch-is b m (word g m)))
           so (λ q. ((q .0, (q .1 .0, q .1 .1 .0)), q .1 .1 .1), λ q. (q .0 .0, (q .0 .1 .0, (q .0 .1 .1, q .1))))
 
-      small : (b : Bool) → stopNumber b < 21
-      small true = omega arith
-      small false = omega arith
+      no-refusal : (b : Bool) → not (among (stopNumber b) (0 ∷ refusalNumbers)) ≡ true
+      no-refusal true = refl
+      no-refusal false = refl
 
       there : status ≡ stopNumber b → Dec (refusal g m ≡ 0) → (numberIn (first g m) ≡ 0) × (Stops (word g m) × LatchIs b m (word g m))
       there q (yes z) = (refused-0 g m f .0 z .0 .begins .fetched, chain .0 (sym (completed-status z) ∙ q))
-      there q (no h) = absurd (⊎-elim h (λ k. let l = k .0 in let e = refused-status h in let s = small b in omega arith) (refusal-is g m))
-
-  pub step-21 : (status ≡ 21) ↔ FetchRefused 21 g m
-  step-21 = above-two 21 (omega arith) so refused-21 g m
-
-  pub step-22 : (status ≡ 22) ↔ FetchRefused 22 g m
-  step-22 = above-two 22 (omega arith) so refused-22 g m
-
-  pub step-23 : (status ≡ 23) ↔ FetchRefused 23 g m
-  step-23 = above-two 23 (omega arith) so refused-23 g m
-
-  pub step-24 : (status ≡ 24) ↔ ((numberIn (first g m) ≡ 0) × NotBuilt (word g m))
-  step-24 = above-two 24 (omega arith) so refused-24 g m
-
-  pub step-25 : (status ≡ 25) ↔ ((numberIn (first g m) ≡ 0) × NoMode (m .mode) (word g m))
-  step-25 = above-two 25 (omega arith) so refused-25 g m
-
-  pub step-26 : (status ≡ 26) ↔ (Begins g m × ((numberIn (second g m) ≡ 0) × (Pair (m .mode) (word g m) × On 15 (more g m))))
-  step-26 = above-two 26 (omega arith) so refused-26 g m
-
-  pub step-27 : (status ≡ 27) ↔ (Continues g m × ((InRange (newX g m) → ⊥) ⊎ (InRange (newY g m) → ⊥)))
-  step-27 = above-two 27 (omega arith) so refused-27 g m f
+      there q (no h) = wrong (sym (rw (sym (refused-status h) ∙ q) at (refusal-is g m)) ∙ not-true .0 (no-refusal b))

@@ -14,25 +14,25 @@ use Rattle.definition.specs.Run.{State, run}
 use Rattle.definition.specs.declared.Pixel.{Pixel}
 use Rattle.definition.specs.declared.Machine.{Machine}
 use Rattle.definition.proofs.StepLaws.{on, run-turn}
-use Rattle.demands.specs.Conditions.{InField}
-use Rattle.demands.specs.Strokes.{In, Stroke, strokes, Lights, lightsBetween, Plots, vectorBetween, longerBetween, OnVector, LitVector}
+use Rattle.demands.specs.Conditions.{Among, InField}
+use Rattle.demands.specs.Strokes.{Stroke, strokes, Lights, lightsBetween, Plots, vectorBetween, longerBetween, OnVector, LitVector}
 use Rattle.demands.proofs.Runs.{run-add}
 use Rattle.demands.proofs.Vectors.{vector-point, vector-length, vector-first, vector-last, vector-near, point-near}
 use Rattle.demands.proofs.Origins.{stroke-origin}
 use Rattle.demands.proofs.Places.{in-words, stroke-in-words}
 
 -- ---- the place of a member
-pub in-at : {A : Type 0} (a d : A) (xs : List A) → In a xs → (i : ℕ) × ((i < length xs) × (getD xs i d ≡ a))
+pub in-at : {A : Type 0} (a d : A) (xs : List A) → Among a xs → (i : ℕ) × ((i < length xs) × (getD xs i d ≡ a))
 in-at a d [] h = absurd h
 in-at a d (x ∷ xs) h = ⊎-elim (λ e. (0, (omega arith, sym e))) (λ k. let r = in-at a d xs k in (suc (r .0), (let l = r .1 .0 in omega arith, r .1 .1))) h
 
-pub at-in : {A : Type 0} (d : A) (xs : List A) (i : ℕ) → i < length xs → In (getD xs i d) xs
+pub at-in : {A : Type 0} (d : A) (xs : List A) (i : ℕ) → i < length xs → Among (getD xs i d) xs
 at-in d [] i l = absurd (omega arith)
 at-in d (x ∷ xs) zero l = inl refl
 at-in d (x ∷ xs) (suc i) l = inr (at-in d xs i (omega arith))
 
 -- ---- a pixel of a vector, with its bound
-on-vector : (m m′ : Machine) (p : Pixel) → In p (vector (pixelAt square (m .x) (m .y)) (pixelAt square (m′ .x) (m′ .y))) → OnVector m m′ p
+on-vector : (m m′ : Machine) (p : Pixel) → Among p (vector (pixelAt square (m .x) (m .y)) (pixelAt square (m′ .x) (m′ .y))) → OnVector m m′ p
 on-vector m m′ p h =
     let r = in-at p p (vector a b) h in
     let k : r .0 ≤ longer a b = let l = r .1 .0 in omega (arith, vector-length a b) in
@@ -62,10 +62,10 @@ module _ (g : Given) where
   lit-vector : (m : Machine) (p : Pixel) → (m .mode ≡ 1) ⊎ (m .mode ≡ 2) → Lights g m p → OnVector m (step g m .machine) p
   lit-vector m p h r = on-vector m (step g m .machine) p (⊎-elim (λ e. at-mode e (in-words g m p .0 r .pixel)) (λ e. at-mode e (in-words g m p .0 r .pixel)) h)
     where
-      at-mode : {k : ℕ} → m .mode ≡ k → In p (lightsBetween (m .mode) m (step g m .machine)) → In p (lightsBetween k m (step g m .machine))
-      at-mode e i = subst (λ (k : ℕ). In p (lightsBetween k m (step g m .machine))) e i
+      at-mode : {k : ℕ} → m .mode ≡ k → Among p (lightsBetween (m .mode) m (step g m .machine)) → Among p (lightsBetween k m (step g m .machine))
+      at-mode e i = subst (λ (k : ℕ). Among p (lightsBetween k m (step g m .machine))) e i
 
-  pub vector-origin : (b : ℕ) (s : State) (t : Stroke) → In t (strokes g b s) → (t .machine .mode ≡ 1) ⊎ (t .machine .mode ≡ 2)
+  pub vector-origin : (b : ℕ) (s : State) (t : Stroke) → Among t (strokes g b s) → (t .machine .mode ≡ 1) ⊎ (t .machine .mode ≡ 2)
       → (k : ℕ) × ((k < b) × ((t .machine ≡ run g k s .machine) × OnVector (run g k s .machine) (run g (suc k) s .machine) (t .pixel)))
   vector-origin b s t h mode =
       let d = stroke-origin g b s t .0 h in
@@ -86,24 +86,24 @@ module _ (g : Given) where
     abbrev stroke : Pixel → Stroke
     stroke p = record { machine = m; pixel = p }
 
-    lit-pixel : (p : Pixel) → In p (vectorBetween m m′) → InField (shapeOf m) p → In (stroke p) (strokes g b s)
+    lit-pixel : (p : Pixel) → Among p (vectorBetween m m′) → InField (shapeOf m) p → Among (stroke p) (strokes g b s)
     lit-pixel p h f = stroke-in-words g b s (stroke p) .1 (k, (below, (running, (refl, plots))))
       where
-        at-mode : {n : ℕ} → m .mode ≡ n → In p (lightsBetween n m (step g m .machine)) → In p (lightsBetween (m .mode) m (step g m .machine))
-        at-mode e i = subst (λ (n : ℕ). In p (lightsBetween n m (step g m .machine))) (sym e) i
+        at-mode : {n : ℕ} → m .mode ≡ n → Among p (lightsBetween n m (step g m .machine)) → Among p (lightsBetween (m .mode) m (step g m .machine))
+        at-mode e i = subst (λ (n : ℕ). Among p (lightsBetween n m (step g m .machine))) (sym e) i
 
-        there : In p (vectorBetween m (step g m .machine))
-        there = subst (λ (t : State). In p (vectorBetween m (t .machine))) (one-further k s running) h
+        there : Among p (vectorBetween m (step g m .machine))
+        there = subst (λ (t : State). Among p (vectorBetween m (t .machine))) (one-further k s running) h
 
         plots : Plots g m p
         plots = record { free = v .completes; on = v .writes; data-word = v .data-word; lit = v .is-lit; field = f; pixel = ⊎-elim (λ e. at-mode e there) (λ e. at-mode e there) (v .mode) }
 
-    pub vector-drawn : (i : ℕ) (d : Pixel) → i ≤ longerBetween m m′ → InField (shapeOf m) (getD (vectorBetween m m′) i d) → In (stroke (getD (vectorBetween m m′) i d)) (strokes g b s)
+    pub vector-drawn : (i : ℕ) (d : Pixel) → i ≤ longerBetween m m′ → InField (shapeOf m) (getD (vectorBetween m m′) i d) → Among (stroke (getD (vectorBetween m m′) i d)) (strokes g b s)
     vector-drawn i d l f = lit-pixel _ (at-in d (vectorBetween m m′) i (omega (arith, vector-length (pixelAt square (m .x) (m .y)) (pixelAt square (m′ .x) (m′ .y))))) f
 
     -- its two ends among them
-    pub start-drawn : InField (shapeOf m) (pixelAt (shapeOf m) (m .x) (m .y)) → In (stroke (pixelAt (shapeOf m) (m .x) (m .y))) (strokes g b s)
+    pub start-drawn : InField (shapeOf m) (pixelAt (shapeOf m) (m .x) (m .y)) → Among (stroke (pixelAt (shapeOf m) (m .x) (m .y))) (strokes g b s)
     start-drawn f = let e = vector-first (pixelAt square (m .x) (m .y)) (pixelAt square (m′ .x) (m′ .y)) (pixelAt square (m .x) (m .y)) in rw e at (vector-drawn 0 (pixelAt square (m .x) (m .y)) (omega arith) (rw e f))
 
-    pub end-drawn : InField (shapeOf m) (pixelAt (shapeOf m) (m′ .x) (m′ .y)) → In (stroke (pixelAt (shapeOf m) (m′ .x) (m′ .y))) (strokes g b s)
+    pub end-drawn : InField (shapeOf m) (pixelAt (shapeOf m) (m′ .x) (m′ .y)) → Among (stroke (pixelAt (shapeOf m) (m′ .x) (m′ .y))) (strokes g b s)
     end-drawn f = let e = vector-last (pixelAt square (m .x) (m .y)) (pixelAt square (m′ .x) (m′ .y)) (pixelAt square (m .x) (m .y)) in rw e at (vector-drawn (longerBetween m m′) (pixelAt square (m .x) (m .y)) (omega arith) (rw e f))

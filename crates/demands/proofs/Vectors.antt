@@ -14,7 +14,7 @@ use Rattle.definition.specs.Vector.{apartX, apartY, longer, rounded, nth, numbe
 use Rattle.definition.specs.declared.Units.{Units}
 use Rattle.definition.specs.declared.Pixel.{Pixel}
 use Rattle.definition.proofs.VectorLaws.{numbered-length, top, top-parts, along, one-formula}
-use Rattle.definition.proofs.StoreLaws.{inside-reverse, stores-reverse}
+use Rattle.definition.proofs.StoreLaws.{inside-reverse, Fitting, stores-reverse}
 use Rattle.demands.specs.Exact.{exact}
 use Rattle.demands.proofs.Near.{near, near-end}
 use Rattle.demands.proofs.Numbered.{numbered-at, numbered-same, numbered-reverse}
@@ -164,9 +164,9 @@ module _ (x y x′ y′ : Units) where
       (near-end 2 (x .0) (omega whole), rw same at (near-end 2 (x′ .0) (omega whole)), near-end 2 (y .0) (omega whole), rw alike at (near-end 2 (y′ .0) (omega whole)))
 
 -- ---- backwards, in the image
-pub same-image : (s : Shape) (pen : Pen) → ((v : ℕ) → pen v < s .base) → (im : List ℕ) (a b : Pixel)
+pub same-image : (s : Shape) (pen : Pen) → Fitting (s .base) pen → (im : List ℕ) (a b : Pixel)
     → stores s pen im (inside s (vector b a)) ≡ stores s pen im (inside s (vector a b))
-same-image s pen low im a b =
+same-image s pen fit im a b =
     ap (λ (ps : List Pixel). stores s pen im (inside s ps)) (vector-turned a b)
     ∙ ap (stores s pen im) (inside-reverse s (vector a b))
-    ∙ stores-reverse s pen low im (inside s (vector a b))
+    ∙ stores-reverse s pen fit im (inside s (vector a b))

@@ -11,8 +11,9 @@ use Rattle.definition.specs.Step.{Given, Step, step}
 use Rattle.definition.specs.Run.{State}
 use Rattle.definition.specs.declared.Pixel.{Pixel}
 use Rattle.definition.specs.declared.Machine.{Machine}
+use Rattle.demands.specs.Conditions.{Among}
 use Rattle.demands.specs.Graphs.{Axis, AlongX, AlongY, stepped, pixelOn, weeks, ofLit, shown, Ready}
-use Rattle.demands.specs.Strokes.{In, Stroke, strokesOf, strokes, strokePixels}
+use Rattle.demands.specs.Strokes.{Stroke, strokesOf, strokes, strokePixels}
 use Rattle.demands.proofs.Members.{in-append, in-strokes}
 use Rattle.demands.proofs.Origins.{strokes-first, strokes-zero}
 use Rattle.demands.proofs.Graphs.{mark, begins, one-step, one-word, shown-append, shown-none, shift, from-here, mark-first, first-fits, still-ready}
@@ -68,7 +69,7 @@ module _ (axis : Axis) (g : Given) where
       ∙ pixels-append (strokesOf (s .machine) ps) (strokes g (length ws) (begins axis s w))
       ∙ rw (pixels-back (s .machine) ps, week-strokes (begins axis s w) ws (still-ready axis g s w ws r)) (lit-first axis s w ws)
 
-  pub week-ink : (s : State) (ws : List ℕ) (t : Stroke) → Ready axis g s ws → In t (strokes g (length ws) s)
+  pub week-ink : (s : State) (ws : List ℕ) (t : Stroke) → Ready axis g s ws → Among t (strokes g (length ws) s)
       → (shapeOf (t .machine) ≡ shapeOf (s .machine)) × (penOf (t .machine) ≡ penOf (s .machine))
   week-ink s [] t r h = absurd (rw (strokes-zero g s) at h)
   week-ink s (w ∷ ws) t r h =

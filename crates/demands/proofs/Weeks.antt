@@ -21,9 +21,9 @@ use Rattle.definition.specs.declared.Pixel.{Pixel}
 use Rattle.definition.specs.declared.Machine.{Machine}
 use Rattle.definition.specs.declared.Ran.{Ran}
 use Rattle.definition.specs.declared.Read.{Read}
-use Rattle.demands.specs.Conditions.{Fits, Open, InField, On}
+use Rattle.demands.specs.Conditions.{Among, Fits, Open, InField, On}
 use Rattle.demands.specs.Graphs.{Axis, stepped, pixelOn, weeks, ofLit, weekAt, shown, Ready, plotted}
-use Rattle.demands.specs.Strokes.{In, seen}
+use Rattle.demands.specs.Strokes.{seen}
 use Rattle.demands.proofs.Kept.{run-length}
 use Rattle.demands.proofs.CallAnswers.{door-0, call-open}
 use Rattle.demands.proofs.OnePen.{lit-stands, unlit-stands}
@@ -39,7 +39,7 @@ module _ (axis : Axis) (h : Shape) (x : ℤ) (g : ℕ) (p : Pixel) where
   abbrev Some : ℕ → List ℕ → Type 0
   Some j ws = (k : ℕ) × ((k < length ws) × (On 14 (getD ws k 0) × (p ≡ at (j + k) (getD ws k 0))))
 
-  in-lit : (j : ℕ) (ws : List ℕ) → In p (ofLit ws (weeks axis h x g j ws)) ↔ Some j ws
+  in-lit : (j : ℕ) (ws : List ℕ) → Among p (ofLit ws (weeks axis h x g j ws)) ↔ Some j ws
   in-lit j [] = (λ n. absurd n, λ q. absurd (let l = q .1 .0 in omega arith))
   in-lit j (w ∷ ws) = go (bit 14 w) refl (in-lit (suc j) ws)
     where
@@ -49,18 +49,18 @@ module _ (axis : Axis) (h : Shape) (x : ℤ) (g : ℕ) (p : Pixel) where
       later : Some (suc j) ws → Some j (w ∷ ws)
       later q = let l = q .1 .0 in (suc (q .0), (omega arith, (q .1 .1 .0, let e : suc j + q .0 ≡ j + suc (q .0) = omega arith in rw e at (q .1 .1 .1))))
 
-      go : (t : Bool) → bit 14 w ≡ t → In p rest ↔ Some (suc j) ws → In p (pick t (at j w ∷ rest) rest) ↔ Some j (w ∷ ws)
+      go : (t : Bool) → bit 14 w ≡ t → Among p rest ↔ Some (suc j) ws → Among p (pick t (at j w ∷ rest) rest) ↔ Some j (w ∷ ws)
       go true e ih = (
         ⊎-elim (λ q. (0, (omega arith, (eqb-true (w / 16384 % 2) 1 e, rw (add-zero j) q)))) (λ q. later (ih .0 q)),
         λ q. back (q .0) (q .1),
       )
         where
-          back : (k : ℕ) → (k < length (w ∷ ws)) × (On 14 (getD (w ∷ ws) k 0) × (p ≡ at (j + k) (getD (w ∷ ws) k 0))) → (p ≡ at j w) ⊎ In p rest
+          back : (k : ℕ) → (k < length (w ∷ ws)) × (On 14 (getD (w ∷ ws) k 0) × (p ≡ at (j + k) (getD (w ∷ ws) k 0))) → (p ≡ at j w) ⊎ Among p rest
           back zero q = inl (rw (add-zero j) at (q .1 .1))
           back (suc k) q = let l = q .0 in let e : j + suc k ≡ suc j + k = omega arith in inr (ih .1 (k, (omega arith, (q .1 .0, rw e at (q .1 .1)))))
       go false e ih = (λ q. later (ih .0 q), λ q. back (q .0) (q .1))
         where
-          back : (k : ℕ) → (k < length (w ∷ ws)) × (On 14 (getD (w ∷ ws) k 0) × (p ≡ at (j + k) (getD (w ∷ ws) k 0))) → In p rest
+          back : (k : ℕ) → (k < length (w ∷ ws)) × (On 14 (getD (w ∷ ws) k 0) × (p ≡ at (j + k) (getD (w ∷ ws) k 0))) → Among p rest
           back zero q = absurd (eqb-false (w / 16384 % 2) 1 e (q .1 .0))
           back (suc k) q = let l = q .0 in let e : j + suc k ≡ suc j + k = omega arith in ih .1 (k, (omega arith, (q .1 .0, rw e at (q .1 .1))))
 
@@ -83,7 +83,7 @@ module _ (axis : Axis) (g : Given) (s : State) (ws : List ℕ) (r : Ready axis g
       → readCall square (run g (length ws) s .image) (weekAt axis m ws k) ≡ record { answer = 0; digit = m .value }
   week-reads k l on here is-lit f =
       let p = weekAt axis m ws k in
-      let among : In p lit = in-lit axis square (stepped axis m .0) (m .increment) p 0 ws .1 (k, (here, (is-lit, rw (zero-add k)))) in
+      let among : Among p lit = in-lit axis square (stepped axis m .0) (m .increment) p 0 ws .1 (k, (here, (is-lit, rw (zero-add k)))) in
       let stands : seen square (run g (length ws) s .image) p ≡ m .value = ap (λ (t : List ℕ). seen square t p) (image-is ∙ ap (stores square (penOf m) (s .image)) (shown-on m lit on)) ∙ lit-stands m fits (s .image) l p f lit among in
       read-0 square (run g (length ws) s .image) p .1 (run-length g (length ws) s ∙ l, f) ∙ ap (λ (d : ℕ). let q : Read = record { answer = 0; digit = d } in q) stands
 
@@ -93,7 +93,7 @@ module _ (axis : Axis) (g : Given) (s : State) (ws : List ℕ) (r : Ready axis g
   unfolding stores
   no-week-reads p h = reads-alike square (s .image) (run g (length ws) s .image) p (run-length g (length ws) s) (λ l f. ap (λ (t : List ℕ). seen square t p) image-is ∙ go (m .write) l f)
     where
-      none : In p lit → ⊥
+      none : Among p lit → ⊥
       none i = let q = in-lit axis square (stepped axis m .0) (m .increment) p 0 ws .0 i in h (q .0) (q .1 .0) (q .1 .1 .0) (rw (zero-add (q .0)) at (q .1 .1 .1))
 
       go : (on : Bool) → length (s .image) ≡ imageBytes → InField square p → seen square (stores square (penOf m) (s .image) (pick on (inside square lit) [])) p ≡ seen square (s .image) p

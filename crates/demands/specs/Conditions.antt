@@ -1,7 +1,7 @@
 -- The conditions of document 01's answers as plain propositions: what a file, a machine and a word are asked for.
 use Prim.Native.Nat.{ℕ, _+_, _≤_, _<_}
 use mathlib.Core.Bool.{Bool, true, false}
-use mathlib.Core.List.{List}
+use mathlib.Core.List.{List, [], _∷_}
 use mathlib.Core.Path.{_≡_}
 use mathlib.Core.Logic.{_⊎_}
 use lib.ListN.{length, getD}
@@ -10,6 +10,7 @@ use lib.Signed.{_≤ℤ_, _<ℤ_}
 use Rattle.definition.specs.Image.{Shape, imageBytes}
 use Rattle.definition.specs.File.{tag, segments, offset, size, header, wordIn, numberIn}
 use Rattle.definition.specs.Words.{none, bits, code, decode}
+use Rattle.definition.specs.Machine.{statuses}
 use Rattle.definition.specs.Step.{Way, wayOf, changed, Given, first, second}
 use Rattle.definition.specs.Run.{State, run}
 use Rattle.definition.specs.Calls.{Lent}
@@ -43,6 +44,11 @@ pub record SameWords (f g : List ℕ) : Type 0 where
   pub same : (i k : ℕ) → i < segments f → k < size f i → getD f (offset f i + k) 0 ≡ getD g (offset f i + k) 0
 
 -- ---- the machine
+-- one of a list: a number of a table, a pixel or a stroke of several
+abbrev pub Among : {A : Type 0} → A → List A → Type 0
+Among a [] = ⊥
+Among a (b ∷ bs) = (a ≡ b) ⊎ Among a bs
+
 pub record InRange (u : Units) : Type 0 where
   pub low : negsuc 4095 ≤ℤ u .0
   pub high : u .0 ≤ℤ pos 4095
@@ -53,7 +59,7 @@ pub record Fits (m : Machine) : Type 0 where
   pub mode : (m .mode ≡ none) ⊎ ((1 ≤ m .mode) × (m .mode ≤ 6))
   pub value : m .value ≤ 3
   pub increment : m .increment ≤ 63
-  pub status : (m .status ≤ 2) ⊎ ((21 ≤ m .status) × (m .status ≤ 27))
+  pub status : Among (m .status) statuses
 
 -- every door of a run open
 pub record Open (l : Lent) (m : Machine) (im : List ℕ) (b : ℕ) : Type 0 where
@@ -87,6 +93,10 @@ NotBuilt w = On 15 w × ((code w ≡ 0) ⊎ ((7 ≤ code w) × (code w ≤ 11)))
 abbrev pub NoMode : ℕ → ℕ → Type 0
 NoMode mode w = Off 15 w × (mode ≡ none)
 
+-- what a first word is refused for
+abbrev pub FirstRefused : ℕ → ℕ → Type 0
+FirstRefused mode w = NotBuilt w ⊎ NoMode mode w
+
 -- a first word of modes 2 and 3; and any first word that has a second
 abbrev pub Pair : ℕ → ℕ → Type 0
 Pair mode w = Off 15 w × ((mode ≡ 2) ⊎ (mode ≡ 3))
@@ -101,11 +111,10 @@ word g m = wordIn (first g m)
 abbrev pub more : Given → Machine → ℕ
 more g m = wordIn (second g m)
 
--- the first fetch gives a word, which is neither 24 nor 25
+-- the first fetch gives a word, which is not refused
 pub record Begins (g : Given) (m : Machine) : Type 0 where
   pub fetched : numberIn (first g m) ≡ 0
-  pub built : NotBuilt (word g m) → ⊥
-  pub moded : NoMode (m .mode) (word g m) → ⊥
+  pub taken : FirstRefused (m .mode) (word g m) → ⊥
 
 -- and where there is a second word, it is fetched and is not 26
 pub record Continues (g : Given) (m : Machine) : Type 0 where

@@ -2,7 +2,7 @@
 use Prim.Native.Nat.{ℕ}
 use Rattle.definition.specs.Image.{Left, left}
 use Rattle.definition.specs.Machine.{withStatus}
-use Rattle.definition.specs.Run.{summed, State}
+use Rattle.definition.specs.Run.{summed, State, withCounts}
 use Rattle.definition.specs.declared.Counts.{Counts}
 use Rattle.definition.specs.declared.Ran.{Ran}
 
@@ -12,4 +12,4 @@ refusedAfter n s = left (record { answer = n; counts = s .counts; machine = with
 
 -- a state with the counts of an earlier run added
 abbrev pub plus : Counts → State → State
-plus t s = record { machine = s .machine; image = s .image; counts = summed t (s .counts) }
+plus t s = withCounts s (summed t (s .counts))

@@ -22,14 +22,9 @@ use Rattle.definition.specs.declared.Pixel.{Pixel}
 use Rattle.definition.specs.declared.Machine.{Machine}
 use Rattle.definition.specs.declared.Item.{Item}
 use Rattle.definition.specs.declared.Instruction.the-variants.{Draws}
-use Rattle.demands.specs.Conditions.{InField, On, Off, word, more}
+use Rattle.demands.specs.Conditions.{Among, InField, On, Off, word, more}
 use Rattle.demands.specs.Exact.{exact}
 use Rattle.demands.specs.Ledger.{Entry, completed}
-
--- is one of a list
-abbrev pub In : {A : Type 0} → A → List A → Type 0
-In a [] = ⊥
-In a (b ∷ bs) = (a ≡ b) ⊎ In a bs
 
 -- ---- strokes
 -- a store: its pixel, and the machine as it was before the step, whose shape and pen it is made with
@@ -75,7 +70,7 @@ pub record Lights (g : Given) (m : Machine) (p : Pixel) : Type 0 where
   pub item : Item
   pub lit : instruction g m ≡ Draws true item
   pub field : InField (shapeOf m) p
-  pub pixel : In p (itemPixels m item (more g m))
+  pub pixel : Among p (itemPixels m item (more g m))
 
 -- the vector between the positions of two machines, and its n
 abbrev pub vectorBetween : Machine → Machine → List Pixel
@@ -100,7 +95,7 @@ pub record Plots (g : Given) (m : Machine) (p : Pixel) : Type 0 where
   pub data-word : Off 15 (word g m)
   pub lit : On 14 (word g m)
   pub field : InField (shapeOf m) p
-  pub pixel : In p (lightsBetween (m .mode) m (step g m .machine))
+  pub pixel : Among p (lightsBetween (m .mode) m (step g m .machine))
 
 -- 2n times a coordinate of pixel i differs from the numerator of its exact point, between two positions in units, by less than 2n
 abbrev pub Near : ℕ → ℕ → ℤ → Units → Units → Type 0
@@ -173,4 +168,4 @@ standing p d (t ∷ ts) = standing p (pick (samePixel p (t .pixel)) (penOf (t .m
 
 -- no stroke of a list is at this pixel
 abbrev pub Unstruck : Pixel → List Stroke → Type 0
-Unstruck p ts = (t : Stroke) → In t ts → p ≡ t .pixel → ⊥
+Unstruck p ts = (t : Stroke) → Among t ts → p ≡ t .pixel → ⊥

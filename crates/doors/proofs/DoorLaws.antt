@@ -4,7 +4,7 @@ use mathlib.Core.Bool.{Bool, true, false, not, _&&_}
 use mathlib.Core.List.{List, [], _∷_, _++_}
 use mathlib.Core.Path.{_≡_, refl, sym, _∙_}
 use native.Mathlib.Omega.{arith}
-use lib.Dec.{eqb, leb, ltb}
+use lib.Dec.{eqb, ltb}
 use lib.ListN.{length}
 use borrow.Author.Tests.{lt-ltb, le-ltb, ltb-false, le-leb, lt-leb, eq-eqb, ne-eqb, eqb-true, not-true, not-false}
 use Rattle.definition.specs.Choice.{Test, firstOf, joined}
@@ -16,7 +16,7 @@ use Rattle.definition.specs.Calls.{imageDoors, budgetDoors, runningDoors, plain
 use Rattle.definition.specs.declared.Machine.{Machine}
 use Rattle.definition.proofs.Exactly.{passes, stops, Fails, fails}
 
--- ---- the mode and the status
+-- ---- the mode
 module _ (k : ℕ) where
   pub no-mode : k ≡ none → eqb k none ≡ isMode k
   unfolding isMode
@@ -25,20 +25,6 @@ module _ (k : ℕ) where
   pub some-mode : (k ≡ none → ⊥) → {t : Bool} → t ≡ setsMode k → t ≡ isMode k
   unfolding isMode
   some-mode n e = rw (ne-eqb _ _ n) e
-
-module _ (s : ℕ) where
-  pub not-refused : s ≤ 2 → leb s 2 ≡ isStatus s
-  unfolding isStatus
-  not-refused h = rw (le-leb _ _ h)
-
-  module _ (over : 2 < s) where
-    pub from-21 : 21 ≤ s → leb s 27 ≡ isStatus s
-    unfolding isStatus
-    from-21 h = rw (lt-leb _ _ over, le-leb _ _ h)
-
-    pub below-21 : s < 21 → leb 21 s ≡ isStatus s
-    unfolding isStatus
-    below-21 h = rw (lt-leb _ _ over, lt-leb _ _ h)
 
 -- ---- the ranges, field by field
 -- what a test that a function answers, asked in an `if !`, tells of its definition

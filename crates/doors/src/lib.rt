@@ -12,10 +12,17 @@ fn is_mode(mode: u8) -> bool
     mode == words::NO_MODE || 1 <= mode && mode <= 6
 }
 
+// By the ends of the table's spans, so that every return is a span of its own.
 fn is_status(status: u8) -> bool
     ensures { λ r. ⌜ r ≡ isStatus status ⌝ }
 {
-    status <= 2 || 21 <= status && status <= 27
+    if status < 3 {
+        return true;
+    }
+    if status < 21 {
+        return false;
+    }
+    status < 28
 }
 
 // Every field is in its range, or else 16.

@@ -8,7 +8,7 @@ use lib.ListN.{length}
 use lib.IntN.{ℤ}
 use Rattle.definition.specs.Choice.{pick}
 use Rattle.definition.specs.Image.{imageBytes, Left}
-use Rattle.definition.specs.Calls.{Lent, plain, startCall, runCall, stepCall}
+use Rattle.definition.specs.Calls.{Lent, withFile, startCall, runCall, stepCall}
 use Rattle.definition.specs.declared.Machine.{Machine}
 use Rattle.demands.specs.Conditions.{Accepted, SameWords}
 use Rattle.demands.proofs.Demands as demands
@@ -69,13 +69,13 @@ pub host-run-16 : (l : Lent) (m : HostMachine) (im : List ℕ) (b : ℕ) → (ho
 host-run-16 = laws.run-16
 
 -- ==== words in no segment decide nothing (of check: check-reads-the-header of Demands.antt)
--- in two files of one length with the same header and the same words in their segments, accepted or not
-pub host-run-of-one-length : (f h : List ℕ) → SameWords f h → length f ≡ length h → (m : HostMachine) (im : List ℕ) (b : ℕ) → hostRun (plain f) m im b ≡ hostRun (plain h) m im b
-host-run-of-one-length f h s e = laws.alike (plain f) (plain h) (demands.run-of-one-length f h s e)
+-- in two files of one length with the same header and the same words in their segments, accepted or not, whatever else is lent
+pub host-run-of-one-length : (f h : List ℕ) → SameWords f h → length f ≡ length h → (l : Lent) (m : HostMachine) (im : List ℕ) (b : ℕ) → hostRun (withFile l f) m im b ≡ hostRun (withFile l h) m im b
+host-run-of-one-length f h s e l = laws.alike (withFile l f) (withFile l h) (demands.run-of-one-length f h s e l)
 
-pub host-step-of-one-length : (f h : List ℕ) → SameWords f h → length f ≡ length h → (m : HostMachine) (im : List ℕ) → hostRun (plain f) m im 1 ≡ hostRun (plain h) m im 1
-host-step-of-one-length f h s e m im = host-run-of-one-length f h s e m im 1
+pub host-step-of-one-length : (f h : List ℕ) → SameWords f h → length f ≡ length h → (l : Lent) (m : HostMachine) (im : List ℕ) → hostRun (withFile l f) m im 1 ≡ hostRun (withFile l h) m im 1
+host-step-of-one-length f h s e l m im = host-run-of-one-length f h s e l m im 1
 
 -- and in two accepted ones of any lengths
-pub host-run-reads-the-segments : (f h : List ℕ) → SameWords f h → Accepted f → Accepted h → (m : HostMachine) (im : List ℕ) (b : ℕ) → hostRun (plain f) m im b ≡ hostRun (plain h) m im b
-host-run-reads-the-segments f h s p q = laws.alike (plain f) (plain h) (demands.run-reads-the-segments f h s p q)
+pub host-run-reads-the-segments : (f h : List ℕ) → SameWords f h → Accepted f → Accepted h → (l : Lent) (m : HostMachine) (im : List ℕ) (b : ℕ) → hostRun (withFile l f) m im b ≡ hostRun (withFile l h) m im b
+host-run-reads-the-segments f h s p q l = laws.alike (withFile l f) (withFile l h) (demands.run-reads-the-segments f h s p q l)

@@ -1,3 +1,3 @@
 pub mod DigitLaws
 pub mod DrawnLaws
-pub mod SquareLaws
+pub mod StoredLaws

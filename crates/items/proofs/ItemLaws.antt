@@ -11,14 +11,15 @@ use mir.Val.{toZ}
 use mir.Facts.{toZ-pos}
 use borrow.Author.Tests.{not-true, not-false}
 use Rattle.definition.specs.Units.{units}
-use Rattle.definition.specs.Image.{Left, left, square, pixelAt, stores}
+use Rattle.definition.specs.Image.{Left, left, square, pixelAt, inkShape, inkPen, stores}
 use Rattle.definition.specs.Vector.{vector}
-use Rattle.definition.specs.Machine.{inRange}
+use Rattle.definition.specs.Machine.{inkOf, inRange}
 use Rattle.definition.specs.Step.{changed, leaves, Way, pointAt, refuses}
 use Rattle.definition.specs.Step.Change.{Set, Move}
 use Rattle.definition.specs.declared.Units.{Units}
 use Rattle.definition.specs.declared.Pixel.{Pixel}
 use Rattle.definition.specs.declared.Machine.{Machine}
+use Rattle.definition.specs.declared.Ink.{Ink}
 use Rattle.definition.proofs.Plain.{either-true}
 use Rattle.units.specs.Answers.{movedTo}
 use Rattle.units.specs.declared.Moved.{Moved}
@@ -52,14 +53,14 @@ module _ (m : Machine) (lit : Bool) (im : List ℕ) {on : Bool} (e : on ≡ lit 
   dark ps t = rw (← e, not-true on t)
 
   module _ (x y : Units) {n : ℕ} {im′ : List ℕ} (t : not on ≡ false) where
-    pub lit-point : {p : Pixel} → p ≡ pixelAt square x y → left n im′ ≡ drawn square (λ old. m .value) im (p ∷ []) → left n im′ ≡ lights m lit im (pointAt m x y)
+    pub lit-point : {p : Pixel} {k : Ink} → p ≡ pixelAt square x y → k ≡ inkOf m → left n im′ ≡ drawn (inkShape k) (inkPen k) im (p ∷ []) → left n im′ ≡ lights m lit im (pointAt m x y)
     unfolding lights kept drawn
-    lit-point ep d = rw (← e, not-false on t, ← ep) d
+    lit-point ep ek d = rw (← e, not-false on t, ← ep, ← ek) d
 
-    pub lit-line : {a b : Pixel} → a ≡ pixelAt square (m .x) (m .y) → b ≡ pixelAt square x y → left n im′ ≡ drawn square (λ old. m .value) im (vector a b)
+    pub lit-line : {a b : Pixel} {k : Ink} → a ≡ pixelAt square (m .x) (m .y) → b ≡ pixelAt square x y → k ≡ inkOf m → left n im′ ≡ drawn (inkShape k) (inkPen k) im (vector a b)
         → left n im′ ≡ lights m lit im (vectorTo m x y)
     unfolding lights kept drawn
-    lit-line ea eb d = rw (← e, not-false on t) (d ∙ rw (ea, eb))
+    lit-line ea eb ek d = rw (← e, not-false on t) (d ∙ rw (ea, eb, ek))
 
 -- ---- the item
 module _ (m : Machine) (lit : Bool) (im : List ℕ) (w : Way) (second : Bool) {r : Stepped} where

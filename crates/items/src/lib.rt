@@ -1,4 +1,5 @@
 // The items, their words not refused: 27, or where each goes and what it draws.
+use definition::Ink;
 use definition::Machine;
 use definition::Units;
 use outcome::Stepped;
@@ -10,7 +11,7 @@ ghost use lib.IntN.{pos};
 ghost use lib.ListN.{length};
 ghost use Rattle.definition.specs.Units.{units, moved};
 ghost use Rattle.definition.specs.Image.{imageBytes, left};
-ghost use Rattle.definition.specs.Machine.{inRange, ranged};
+ghost use Rattle.definition.specs.Machine.{inkOf, shapeOf, inRange, ranged};
 ghost use Rattle.definition.specs.Step.{way, pointAt, vectorBy};
 ghost use Rattle.definition.specs.Step.Change.{Set, Move};
 ghost use Rattle.units.specs.Answers.{movedTo};
@@ -28,15 +29,22 @@ fn keeps(lit: bool, write: bool) -> bool
     false
 }
 
+// What the machine's stores write with.
+fn ink_of(m: Machine) -> Ink
+    ensures { λ r. ⌜ r ≡ inkOf m ⌝ }
+{
+    Ink { value: m.value }
+}
+
 // At (x, y).
 fn point(m: Machine, image: &mut [u8], lit: bool, x: Units, y: Units) -> u32
-    requires { ⌜ (length (now image) ≡ imageBytes) × (m .value < 4) ⌝ }
+    requires { ⌜ (length (now image) ≡ imageBytes) × (m .value < shapeOf m .base) ⌝ }
     ensures { λ r. ⌜ left r (now (image .exit)) ≡ lights m lit (now (image .entry)) (pointAt m x y) ⌝ }
 {
     if !keeps(lit, m.write) {
         return 0;
     }
-    image::plot(image, units::pixel_at(x, y), m.value)
+    image::plot(image, units::pixel_at(x, y), ink_of(m))
 }
 
 // From the position to (x, y).
@@ -48,7 +56,7 @@ fn line(m: Machine, image: &mut [u8], lit: bool, x: Units, y: Units) -> u32
         return 0;
     }
     let from = units::pixel_at(m.x, m.y);
-    vector::draw(image, from, units::pixel_at(x, y), m.value)
+    vector::draw(image, from, units::pixel_at(x, y), ink_of(m))
 }
 
 // Where a move from the position ends, within the range or out of it.

@@ -17,6 +17,7 @@
 //   Of an order: 2 whether it sets something (status C: in channel 0), 3 to what, if so; 4 the mode, or whether it stops.
 // 5 vector: 2 value; 4, 6 X and Y of the first pixel, 8, 10 of the last, with 2,048 added. Record of 4: the number of stores.
 // 6 look: 1 whether to fill; 2 with which byte. Record of 4: the digest of the image before.
+use definition::Ink;
 use definition::Pixel;
 use definition::Pixels;
 use definition::Units;
@@ -49,7 +50,9 @@ fn units_case(head: &[u8]) -> bool {
 
 // ---- image
 fn image_case(head: &[u8], image: &mut [u8; 65536]) -> bool {
-    let v = records::byte_at(head, 2) % 4;
+    let ink = Ink {
+        value: records::byte_at(head, 2) % 4,
+    };
     let x = (records::word_at(head, 4) % 512) as usize;
     let y = (records::word_at(head, 6) % 512) as usize;
     let p = Pixel {
@@ -62,10 +65,10 @@ fn image_case(head: &[u8], image: &mut [u8; 65536]) -> bool {
             answer = image::read(image, x, y) as u32;
         }
         1 => {
-            image::store(image, x, y, v);
+            image::store(image, x, y, ink);
         }
         2 => {
-            answer = image::plot(image, p, v);
+            answer = image::plot(image, p, ink);
         }
         _ => {
             image::clear(image);
@@ -192,7 +195,10 @@ fn pixel_of(x: u16, y: u16) -> Pixel
 fn vector_case(head: &[u8], image: &mut [u8; 65536]) -> bool {
     let a = pixel_of(records::word_at(head, 4), records::word_at(head, 6));
     let b = pixel_of(records::word_at(head, 8), records::word_at(head, 10));
-    write_long(vector::draw(image, a, b, records::byte_at(head, 2) % 4))
+    let ink = Ink {
+        value: records::byte_at(head, 2) % 4,
+    };
+    write_long(vector::draw(image, a, b, ink))
 }
 
 // ---- one case, and all; false at the end of the input, and where it is none

@@ -1,7 +1,7 @@
 // Reads cases for the calls from standard input, and writes a line for each: second makes the cases and knows the lines.
 // tests/replay.sh compares fresh ones; stdin and stdout here are those of `second replay 1 DIR`.
 //
-// A case is a head of 42 bytes, which the words of a file follow, two bytes each. Numbers stand low byte first. A number marked i
+// A case is a head of 64 bytes, which the words of a file follow, two bytes each. Numbers stand low byte first. A number marked i
 // is signed, in 32 bits, with 2^31 added.
 //   0 kind: 1 check, 2 fresh, 3 start, 4 step, 5 run, 6 clear, 7 read_pixel
 //   1 mode, 2 value, 3 write, 4 latch, 5 increment, 6 status, 8 counter (16 bits), 12 X i, 16 Y i: the machine; 7 is 0
@@ -10,6 +10,8 @@
 //   24 X i, 28 Y i: the pixel to read
 //   32 length of the image, 32 bits, at most 65,537; 36 its seed, 32 bits
 //   40 number of words, 16 bits, at most 32,768
+//   kept for what is not built, and 0: 42 ones, 43 shape, 44 saved counter, 32 bits, 48 length of a lent character set, 16 bits, 50 pressed,
+//   51 nothing, 52 seed of the set, 32 bits, 56 X i, 60 Y i of a crosshair
 // For each byte of the image a number, 0 at first, becomes 69,069 times itself and the seed, in 32 bits; the byte is its highest eight
 // bits. With the seed 0 every byte is 0.
 //
@@ -156,8 +158,8 @@ fn with_file(head: &[u8], image: &mut [u8], body: &mut [u8], words: &mut [u16]) 
 }
 
 fn one_case(image: &mut [u8; 65537], body: &mut [u8; 65536], words: &mut [u16; 32768]) -> bool {
-    let mut head = [0u8; 42];
-    if io::read_full(STDIN_FILENO, &mut head) < 42 {
+    let mut head = [0u8; 64];
+    if io::read_full(STDIN_FILENO, &mut head) < 64 {
         return false;
     }
     with_file(&head, image, body, words)

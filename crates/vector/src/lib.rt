@@ -1,4 +1,5 @@
 // A vector drawn into the image: the pixels of the whole vector, of which those in the field are stored.
+use definition::Ink;
 use definition::Pixel;
 use definition::Pixels;
 ghost use mathlib.Core.Path.{_≡_};
@@ -7,7 +8,7 @@ ghost use lib.Dec.{leb};
 ghost use lib.ListN.{length};
 ghost use lib.IntN.{pos, natAbs, _+ℤ_, _-ℤ_};
 ghost use Rattle.definition.specs.Units.{pixels};
-ghost use Rattle.definition.specs.Image.{square, imageBytes, left};
+ghost use Rattle.definition.specs.Image.{imageBytes, inkShape, inkPen, left};
 ghost use Rattle.definition.specs.Vector.{apartX, apartY, longer, byOne, rounded, nth, vector};
 ghost use Rattle.image.specs.Drawn.{drawn};
 ghost use Rattle.vector.specs.Raised.{Reached, Reaches, nearestTo};
@@ -91,21 +92,21 @@ fn nth(a: Pixel, b: Pixel, across: bool, n: u32, i: u32) -> Pixel
 }
 
 // Answers how many pixels were stored.
-pub fn draw(image: &mut [u8], a: Pixel, b: Pixel, v: u8) -> u32
-    requires { ⌜ (length (now image) ≡ imageBytes) × Reaches a × Reaches b × (v < 4) ⌝ }
-    ensures { λ r. ⌜ left r (now (image .exit)) ≡ drawn square (λ old. v) (now (image .entry)) (vector a b) ⌝ }
+pub fn draw(image: &mut [u8], a: Pixel, b: Pixel, ink: Ink) -> u32
+    requires { ⌜ (length (now image) ≡ imageBytes) × Reaches a × Reaches b × (ink .value < inkShape ink .base) ⌝ }
+    ensures { λ r. ⌜ left r (now (image .exit)) ≡ drawn (inkShape ink) (inkPen ink) (now (image .entry)) (vector a b) ⌝ }
 {
     let x = apart(a.x, b.x);
     let y = apart(a.y, b.y);
     let n = larger(x, y);
     if n == 0 {
-        return image::plot(image, a, v);
+        return image::plot(image, a, ink);
     }
     let across = y <= x;
     let mut i = 0;
     let mut count = 0;
     while i <= n {
-        count += image::plot(image, nth(a, b, across, n, i), v);
+        count += image::plot(image, nth(a, b, across, n, i), ink);
         i += 1;
     }
     count

@@ -1,16 +1,23 @@
+use mathlib.Core.Bool.{true, false}
+use mathlib.Core.Path.{refl}
 use native.Mathlib.Omega.{arith}
-use Rattle.doors.proofs.DoorLaws.{not-refused, from-21, below-21}
+use lib.Dec.{ltb}
+use Rattle.definition.specs.Machine.{isStatus}
+use Rattle.definition.proofs.Tables.{spanned}
 use Rattle.doors.proofs.is_status.Statement.{statement}
 use Rattle.doors.proofs.is_status.Tie as tie
 
 returns : tie.Need-returns
-returns c = not-refused (c .before .args .status) (omega (arith, c .if1 .taken))
+unfolding isStatus
+returns c = spanned isStatus (λ n. true) 0 _ _ (omega arith) (c .if1 .taken) refl
 
 returns-2 : tie.Need-returns-2
-returns-2 c = from-21 (c .before .before .args .status) (omega (arith, c .before .if1 .left)) (c .if2 .taken)
+unfolding isStatus
+returns-2 c = spanned isStatus (λ n. false) _ _ _ (c .before .if1 .left) (c .if2 .taken) refl
 
 returns-3 : tie.Need-returns-3
-returns-3 c = below-21 (c .before .before .args .status) (omega (arith, c .before .if1 .left)) (c .if2 .left)
+unfolding isStatus
+returns-3 c = spanned isStatus (λ n. ltb n _) _ _ _ (c .if2 .left) (c .before .before .fits .status .fits) refl
 
 pub is-status-spec : {M : Type 1} → statement M
 is-status-spec = tie.close (tie.spec returns returns-2 returns-3)

@@ -1,4 +1,4 @@
-use Rattle.image.proofs.SquareLaws.{stored}
+use Rattle.image.proofs.StoredLaws.{stored}
 use borrow.Author.Needs.{needs}
 use Rattle.image.proofs.store.Statement.{statement}
 use Rattle.image.proofs.store.Tie as tie

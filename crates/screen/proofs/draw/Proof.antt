@@ -1,7 +1,7 @@
 use mathlib.Core.Path.{_≡_, refl, _∙_}
 use native.Mathlib.Omega.{arith}
 use Rattle.definition.specs.Image.{blank}
-use Rattle.image.proofs.SquareLaws.{cleared-is-blank}
+use Rattle.image.proofs.StoredLaws.{cleared-is-blank}
 use Rattle.screen.proofs.ScreenLaws.{odd, too-long, ran}
 use borrow.Author.Needs.{needs}
 use Rattle.screen.proofs.draw.Statement.{statement}

@@ -2,7 +2,7 @@ use Prim.Native.Nat.{_+_, _-_, _≤_, _<_}
 use mathlib.Core.Path.{_≡_, refl, sym, _∙_}
 use native.Mathlib.Omega.{arith}
 use lib.ListN.{length}
-use Rattle.definition.specs.Image.{square, left, inside, stores}
+use Rattle.definition.specs.Image.{inkShape, inkPen, left, inside, stores}
 use Rattle.definition.specs.Vector.{longer, nth, numbered}
 use Rattle.image.specs.Drawn.{drawn}
 use Rattle.image.proofs.DrawnLaws.{one-at-most}
@@ -12,11 +12,11 @@ use Rattle.vector.proofs.draw.Statement.{statement}
 use Rattle.vector.proofs.draw.Tie as tie
 
 abbrev Inv-loop : tie.InvT-loop
-Inv-loop image₀ a b v x y n across i₀ count₀ image i count =
-    (i ≤ n + 1) × (count ≤ i) × (length image ≡ length image₀) × (left count image ≡ drawn square (λ old. v) image₀ (numbered (nth a b) i))
+Inv-loop image₀ a b ink x y n across i₀ count₀ image i count =
+    (i ≤ n + 1) × (count ≤ i) × (length image ≡ length image₀) × (left count image ≡ drawn (inkShape ink) (inkPen ink) image₀ (numbered (nth a b) i))
 
 abbrev μ-loop : tie.MeasureT-loop
-μ-loop image₀ a b v x y n across i₀ count₀ image i count = n + 1 - i
+μ-loop image₀ a b ink x y n across i₀ count₀ image i count = n + 1 - i
 
 -- n, as the code has it
 is-longer : (c : tie.After-larger Inv-loop μ-loop) → let a = c .before .before .before .before .args in c .larger .result ≡ longer (a .a) (a .b)
@@ -26,7 +26,7 @@ below : (c : tie.After-larger Inv-loop μ-loop) → c .larger .result < 4096
 below c = omega (arith, c .larger .ensures, c .before .before .apart .ensures .1, c .before .apart2 .ensures .1)
 
 at-most : (c : tie.After-slice-known3 Inv-loop μ-loop) → c .before .before .plot2 .result ≤ 1
-at-most c = one-at-most square _ _ _ (c .before .before .plot2 .ensures)
+at-most c = one-at-most _ _ _ _ (c .before .before .plot2 .ensures)
 
 apart-requires : tie.Need-apart-requires Inv-loop μ-loop
 apart-requires c κs = let h = c .before .pre in (h .1 .x, h .2 .x)
@@ -82,7 +82,7 @@ loop-again c =
     let n = l .before .before in
     let a = n .before .before .before .before .args in
     let p = c .before .before .plot2 in
-    let t = walk-turn square (λ old. a .v) (a .image .now) (nth (a .a) (a .b)) (l .loop .i) (l .loop .inv .3) (c .before .before .before .nth .ensures) (p .ensures) in
+    let t = walk-turn (inkShape (a .ink)) (inkPen (a .ink)) (a .image .now) (nth (a .a) (a .b)) (l .loop .i) (l .loop .inv .3) (c .before .before .before .nth .ensures) (p .ensures) in
     (omega arith, omega (arith, at-most c), p .kept .0 ∙ l .loop .inv .2, t)
 
 same-length-2 : tie.Need-same-length-2 Inv-loop μ-loop

@@ -2,9 +2,9 @@ use mathlib.Core.Path.{sym, _∙_}
 use native.Mathlib.Omega.{arith}
 use borrow.Author.Needs.{needs}
 use Rattle.units.proofs.AnswerLaws.{index-below}
-use Rattle.display.proofs.CallLaws.{no-image, beside, above, read-in}
-use Rattle.display.proofs.read_pixel.Statement.{statement}
-use Rattle.display.proofs.read_pixel.Tie as tie
+use Rattle.still.proofs.StillLaws.{no-image, beside, above, read-in}
+use Rattle.still.proofs.read_pixel.Statement.{statement}
+use Rattle.still.proofs.read_pixel.Tie as tie
 
 no-digit-requires : tie.Need-no-digit-requires
 no-digit-requires c κs = search needs

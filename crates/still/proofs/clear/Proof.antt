@@ -1,7 +1,7 @@
 use borrow.Author.Needs.{needs}
-use Rattle.display.proofs.CallLaws.{not-cleared, all-cleared}
-use Rattle.display.proofs.clear.Statement.{statement}
-use Rattle.display.proofs.clear.Tie as tie
+use Rattle.still.proofs.StillLaws.{not-cleared, all-cleared}
+use Rattle.still.proofs.clear.Statement.{statement}
+use Rattle.still.proofs.clear.Tie as tie
 
 returns : tie.Need-returns
 returns c = not-cleared _ (c .if1 .taken)

@@ -1,8 +1,8 @@
 use borrow.Author.Needs.{needs}
 use Rattle.doors.proofs.DoorLaws.{failed, held}
-use Rattle.display.proofs.CallLaws.{not-started, started}
-use Rattle.display.proofs.start.Statement.{statement}
-use Rattle.display.proofs.start.Tie as tie
+use Rattle.still.proofs.StillLaws.{not-started, started}
+use Rattle.still.proofs.start.Statement.{statement}
+use Rattle.still.proofs.start.Tie as tie
 
 ranged-requires : tie.Need-ranged-requires
 ranged-requires c κs = search needs
