@@ -7,6 +7,7 @@ pub mod Numbers
 pub mod Exactly
 pub mod Plain
 pub mod Tables
+pub mod Answers
 pub mod VectorLaws
 pub mod Digits
 pub mod StoreLaws

@@ -1,13 +1,13 @@
 -- Laws of a step and of a run's next turn: an instruction completes or is refused, what it is refused for, and that every field of the machine stays in its range.
 use Prim.Native.Nat.{ℕ, zero, suc, _≤_, _<_}
-use mathlib.Core.Bool.{Bool, true, false, _&&_}
-use mathlib.Core.List.{List, [], _∷_}
+use mathlib.Core.Bool.{Bool, true, false}
+use mathlib.Core.List.{_∷_}
 use mathlib.Core.Path.{_≡_, refl}
 use mathlib.Core.Logic.{inr, _↔_}
 use native.Mathlib.Omega.{arith}
 use lib.Dec.{eqb}
 use borrow.Author.Tests.{eq-eqb, ne-eqb, eqb-true}
-use Rattle.definition.specs.Choice.{pick, among, Test, firstOf}
+use Rattle.definition.specs.Choice.{pick}
 use Rattle.definition.specs.File.{wordIn, fetchRefusals}
 use Rattle.definition.specs.Words.{none, bit, code, setsMode, order, decode, firstRefusals, secondRefusals}
 use Rattle.definition.specs.Machine.{inRange, isMode, refusalNumbers, statuses, isStatus, ranged}
@@ -16,13 +16,13 @@ use Rattle.definition.specs.Step.Change.{Stay, Set, Move}
 use Rattle.definition.specs.Run.{State, after, run}
 use Rattle.definition.specs.declared.Units.{Units}
 use Rattle.definition.specs.declared.Machine.{Machine}
-use Rattle.definition.specs.declared.Fetched.{Fetched}
 use Rattle.definition.specs.declared.Order.{Order}
 use Rattle.definition.specs.declared.Order.the-variants.{SetMode, Jump, NoOp, StatusA, Increment, StatusC}
 use Rattle.definition.specs.declared.Instruction.{Instruction}
 use Rattle.definition.specs.declared.Instruction.the-variants.{Does, Draws}
-use Rattle.definition.proofs.Exactly.{names, Fails, fails}
-use Rattle.definition.proofs.Tables.{all-of, in-both}
+use Rattle.definition.proofs.Exactly.{Fails, fails}
+use Rattle.definition.proofs.Tables.{in-both}
+use Rattle.definition.proofs.Answers.{refusal-is}
 use Rattle.definition.proofs.Plain.{_so_, _and_, itself, is-less, is-most, not-false, both-true, either-true, either-false}
 
 pub pick-keeps : {A : Type 0} (P : A → Type 0) (t : Bool) {a b : A} → (t ≡ true → P a) → (t ≡ false → P b) → P (pick t a b)
@@ -57,26 +57,6 @@ module _ (g : Given) where
   run-stopped (suc b) s h = rw (ne-eqb _ _ h)
 
 -- ---- what an instruction is refused for
--- what a test on numbers says of 0 and of every number of a list, it says of the list's answer
-abbrev pub all-are : (ℕ → Bool) → List Test → Bool
-all-are is [] = true
-all-are is (t ∷ ts) = is (t .number) && all-are is ts
-
-pub first-is : (is : ℕ → Bool) (ts : List Test) → is 0 ≡ true → all-are is ts ≡ true → is (firstOf ts) ≡ true
-unfolding firstOf
-first-is is [] z e = z
-first-is is (t ∷ ts) z e = let w = both-true .0 e in pick-keeps (λ (n : ℕ). is n ≡ true) (t .holds) (λ h. w .0) (λ h. first-is is ts z (w .1))
-
--- 0, or a number of the table
-pub refusal-is : (g : Given) (m : Machine) → among (refusal g m) (0 ∷ refusalNumbers) ≡ true
-unfolding refusal refusals fetchRefusals firstRefusals secondRefusals wayRefusals
-refusal-is g m = first-is (λ n. among n (0 ∷ refusalNumbers)) (refusals m (first g m) (instruction g m) (second g m)) refl refl
-
--- and the table has no other: each of its numbers is that of a test
-pub refusals-all : (m : Machine) (got : Fetched) (i : Instruction) (more : Fetched) → all-of (λ n. names n (refusals m got i more)) refusalNumbers ≡ true
-unfolding refusals fetchRefusals firstRefusals secondRefusals wayRefusals
-refusals-all m got i more = refl
-
 -- an instruction that is not refused passes each test of its number
 pub free : (g : Given) (m : Machine) (n : ℕ) → refusal g m ≡ 0 → Fails n (refusals m (first g m) (instruction g m) (second g m))
 unfolding refusal refusals fetchRefusals firstRefusals secondRefusals wayRefusals

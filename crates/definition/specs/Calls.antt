@@ -36,10 +36,6 @@ pub record Lent : Type 0 where
 abbrev pub plain : List ℕ → Lent
 plain f = record { file = f }
 
--- the same with another file
-abbrev pub withFile : Lent → List ℕ → Lent
-withFile l f = record { file = f }
-
 abbrev pub given : Lent → Given
 given l = record { memory = fetch (l .file) }
 
@@ -55,7 +51,7 @@ startCall m a =
 abbrev pub doorNumbers : List ℕ
 doorNumbers = 11 ∷ 12 ∷ 13 ∷ 14 ∷ 15 ∷ 16 ∷ 17 ∷ 28 ∷ []
 
--- in this order; a file's are 12 to 15
+-- asked in this order: the image, the file (12 to 15), the machine, the budget, the status
 unfoldable pub runDoors : Lent → Machine → List ℕ → ℕ → List Test
 runDoors l m im b = joined (imageDoors im ∷ fileDoors (l .file) ∷ machineDoors m ∷ budgetDoors b ∷ runningDoors m ∷ [])
 

@@ -30,13 +30,6 @@ pub record State : Type 0 where
 abbrev pub begun : Machine → List ℕ → State
 begun m im = record { machine = m; image = im; counts = nothing }
 
--- the same state but for its machine, or its counts
-abbrev pub withMachine : State → Machine → State
-withMachine s m = record { machine = m; image = s .image; counts = s .counts }
-
-abbrev pub withCounts : State → Counts → State
-withCounts s c = record { machine = s .machine; image = s .image; counts = c }
-
 -- a step's pixels are stored with the machine's pen as it was before the step
 abbrev pub after : State → Step → State
 after s t =

@@ -20,11 +20,12 @@ use Rattle.definition.specs.Calls.{imageDoors, budgetDoors, runningDoors, Lent,
 use Rattle.definition.specs.declared.Machine.{Machine}
 use Rattle.definition.specs.declared.Ran.{Ran}
 use Rattle.definition.proofs.Exactly.{apart, names, exactly, none-holds, in-later, in-first}
-use Rattle.definition.proofs.Tables.{all-of, one-of, in-both, in-one}
+use Rattle.definition.proofs.Tables.{one-of, in-both}
+use Rattle.definition.proofs.Answers.{door-is, door-no-status}
 use Rattle.definition.proofs.Plain.{_so_, _and_, itself, is-less, not-less, is-equal, not-equal, not-true, not-false, either-true, failing, never}
 use Rattle.demands.specs.Outcomes.{refusedAfter}
 use Rattle.demands.specs.Conditions.{Among, Accepted, Fits, Open, During}
-use Rattle.definition.proofs.StepLaws.{on, step-done, step-refused, run-turn, run-stopped, first-is}
+use Rattle.definition.proofs.StepLaws.{on, step-done, step-refused, run-turn, run-stopped}
 use Rattle.demands.proofs.Runs.{refused-only, run-add}
 use Rattle.demands.proofs.Kept.{is-among, fits, run-fits}
 use Rattle.demands.proofs.FileAnswers.{check-0}
@@ -148,15 +149,7 @@ module _ (l : Lent) (m : Machine) (im : List ℕ) (b : ℕ) where
   unfolding runCall
   call-open e = rw (eq-eqb _ _ e)
 
-  -- the tables: a door's number, and the status that a run ends with
-  door-is : among door (0 ∷ doorNumbers) ≡ true
-  unfolding runDoor runDoors imageDoors fileDoors headDoors segmentDoors machineDoors budgetDoors runningDoors
-  door-is = first-is (λ n. among n (0 ∷ doorNumbers)) (runDoors l m im b) refl refl
-
-  doors-all : all-of (λ n. names n (runDoors l m im b)) doorNumbers ≡ true
-  unfolding runDoors imageDoors fileDoors headDoors segmentDoors machineDoors budgetDoors runningDoors
-  doors-all = refl
-
+  -- a run ends with a status
   last-is : door ≡ 0 → among last statuses ≡ true
   last-is e = is-among last statuses .1 (run-fits (given l) b (begun m im) (door-0 .0 e .machine) .status)
 
@@ -166,9 +159,9 @@ module _ (l : Lent) (m : Machine) (im : List ℕ) (b : ℕ) where
   answer-open : door ≡ 0 → answer ≡ last
   answer-open z = ap (λ (r : Left Ran). r .result .answer) (call-open z)
 
-  -- none is in both, so that an answer says where it is from
+  -- a door's number is no status, so that an answer says where it is from
   no-status : (n s : ℕ) → among n doorNumbers ≡ true → among s statuses ≡ true → s ≡ n → ⊥
-  no-status n s k h q = in-one doorNumbers statuses n refl k (rw q at h)
+  no-status n s k h q = door-no-status n k (rw q at h)
 
   by-door : (n : ℕ) → among n doorNumbers ≡ true → (answer ≡ n) ↔ (door ≡ n)
   by-door n k = go (ℕ-discrete door 0)
@@ -181,7 +174,7 @@ module _ (l : Lent) (m : Machine) (im : List ℕ) (b : ℕ) where
   by-run n k = go (ℕ-discrete door 0)
     where
       shut : (door ≡ 0 → ⊥) → door ≡ n → ⊥
-      shut h q = ⊎-elim (λ e. h (is-equal .0 e)) (λ e. no-status door n e k (sym q)) (either-true {s = eqb door 0} .0 door-is)
+      shut h q = ⊎-elim (λ e. h (is-equal .0 e)) (λ e. no-status door n e k (sym q)) (either-true {s = eqb door 0} .0 (door-is l m im b))
 
       go : Dec (door ≡ 0) → (answer ≡ n) ↔ (Open l m im b × (last ≡ n))
       go (no h) = (λ q. absurd (shut h (sym (answer-shut h) ∙ q)), λ q. absurd (h (door-0 .1 (q .0))))
@@ -192,8 +185,11 @@ module _ (l : Lent) (m : Machine) (im : List ℕ) (b : ℕ) where
   answer-is = go (ℕ-discrete door 0)
     where
       go : Dec (door ≡ 0) → among answer (statuses ++ doorNumbers) ≡ true
-      go (no h) = rw (answer-shut h) (in-both (0 ∷ doorNumbers) (statuses ++ doorNumbers) door refl door-is)
+      go (no h) = rw (answer-shut h) (in-both (0 ∷ doorNumbers) (statuses ++ doorNumbers) door refl (door-is l m im b))
       go (yes z) = rw (answer-open z) (in-both statuses (statuses ++ doorNumbers) last refl (last-is z))
+
+  pub run-answers : Among answer (statuses ++ doorNumbers)
+  run-answers = is-among answer (statuses ++ doorNumbers) .0 answer-is
 
   pub never-19 : answer ≡ 19 → ⊥
   never-19 e = apart (sym (rw e at answer-is))

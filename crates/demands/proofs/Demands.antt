@@ -13,10 +13,10 @@ use Rattle.definition.specs.Image.{Shape, square, imageBytes, blank, pixelAt, i
 use Rattle.definition.specs.File.{tag, segments, offset, size, header, segmentOf, placeOf, fetch, numberIn}
 use Rattle.definition.specs.Words.{shortX, shortY, long, coordinate}
 use Rattle.definition.specs.Vector.{longer, vector}
-use Rattle.definition.specs.Machine.{refusalNumbers, fresh, startedAt, withStatus, shapeOf, penOf}
+use Rattle.definition.specs.Machine.{refusalNumbers, statuses, fresh, startedAt, withStatus, shapeOf, penOf}
 use Rattle.definition.specs.Step.{Given, first, second, refusal, step}
-use Rattle.definition.specs.Run.{State, begun, withMachine, after, run}
-use Rattle.definition.specs.Calls.{Lent, plain, withFile, given, checkCall, startCall, runDoor, turnedAway, runCall, stepCall, clearCall, readCall}
+use Rattle.definition.specs.Run.{State, begun, after, run}
+use Rattle.definition.specs.Calls.{Lent, plain, given, checkCall, startCall, doorNumbers, runDoor, turnedAway, runCall, stepCall, clearCall, readCall}
 use Rattle.definition.specs.Plot.{wordsIn, plotBudget, ranLine, refusedLine, plotLine}
 use Rattle.definition.specs.Promises.{Promise-check, Promise-fresh, Promise-start, Promise-run, Promise-step, Promise-clear, Promise-read}
 use Rattle.definition.specs.declared.Units.{Units}
@@ -30,6 +30,7 @@ use Rattle.demands.specs.Conditions.{Among, Head, Keeps, Accepted, SameH
 use Rattle.demands.specs.Ledger.{completed, changes, settled}
 use Rattle.demands.specs.Graphs.{AlongX, AlongY, weeks, ofLit, shown, Ready, plotted}
 use Rattle.demands.specs.Exact.{exact}
+use Rattle.demands.specs.With.{withFile, withMachine}
 use Rattle.demands.specs.Outcomes.{refusedAfter, plus}
 use Rattle.demands.proofs.Runs as runs
 use Rattle.demands.proofs.Kept as kept
@@ -146,6 +147,10 @@ module _ (l : Lent) (m : Machine) (im : List ℕ) (b : ℕ) where
   -- in a run whose doors are all open, a step was made from a running machine of which this holds
   abbrev Ends : (Machine → Type 0) → Type 0
   Ends Q = Open l m im b × During g b (begun m im) Q
+
+  -- no other answer than these
+  pub run-answers : Among answer (statuses ++ doorNumbers)
+  run-answers = calls.run-answers l m im b
 
   pub run-0 : (answer ≡ 0) ↔ (Open l m im b × ((run g b (begun m im) .machine .status ≡ 0) × (run g b (begun m im) .counts .steps ≡ b)))
   run-0 = calls.run-0 l m im b

@@ -12,13 +12,14 @@ use Rattle.definition.specs.Choice.{pick, firstOf}
 use Rattle.definition.specs.File.{tag, segments, offset, size, keepBelow, headDoors, segmentDoors, fileDoors, segmentOf, placeOf, fetch}
 use Rattle.definition.specs.Image.{blank}
 use Rattle.definition.specs.Machine.{fresh}
-use Rattle.definition.specs.Calls.{Lent, plain, withFile, checkCall, runDoors, runDoor, runCall}
+use Rattle.definition.specs.Calls.{Lent, plain, checkCall, runDoors, runDoor, runCall}
 use Rattle.definition.specs.Plot.{wordsIn, inputDoors, plotBudget, plotLine}
 use Rattle.definition.specs.declared.Unfetched.the-variants.{Odd, NoSegment, NoPlace}
 use Rattle.definition.specs.declared.Fetched.{Fetched}
 use Rattle.definition.specs.declared.Fetched.the-variants.{Word, Refused}
 use Rattle.definition.specs.declared.Machine.{Machine}
 use Rattle.definition.proofs.Exactly.{none-holds}
+use Rattle.demands.specs.With.{withFile}
 use Rattle.demands.specs.Conditions.{Accepted, SameHeader, SameWords}
 use Rattle.demands.proofs.FileAnswers.{check-0}
 

@@ -10,10 +10,11 @@ use Rattle.definition.specs.Choice.{pick}
 use Rattle.definition.specs.Image.{stores}
 use Rattle.definition.specs.Machine.{withStatus}
 use Rattle.definition.specs.Step.{Given, refusal, step}
-use Rattle.definition.specs.Run.{nothing, summed, State, begun, withMachine, withCounts, after, run}
+use Rattle.definition.specs.Run.{nothing, summed, State, begun, after, run}
 use Rattle.definition.specs.declared.Machine.{Machine}
 use Rattle.definition.specs.declared.Counts.{Counts}
 use Rattle.definition.proofs.StepLaws.{pick-keeps, step-refused, on, run-stopped}
+use Rattle.demands.specs.With.{withMachine, withCounts}
 use Rattle.demands.specs.Ledger.{Entry, entry, completed}
 use Rattle.demands.specs.Outcomes.{plus}
 

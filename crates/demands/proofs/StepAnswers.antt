@@ -22,12 +22,13 @@ use Rattle.definition.specs.declared.Fetched.the-variants.{Word, Refused}
 use Rattle.definition.specs.declared.Instruction.{Instruction}
 use Rattle.definition.specs.declared.Order.{Order}
 use Rattle.definition.specs.declared.Order.the-variants.{SetMode, Jump, NoOp, StatusA, Increment, StatusC}
+use Rattle.definition.proofs.Answers.{refusal-is}
 use Rattle.definition.proofs.Exactly.{apart, names, exactly, none-holds, in-either, in-later, in-first, asked-if}
 use Rattle.definition.proofs.Plain.{_so_, _and_, _or_, itself, back, is-equal, not-equal, not-true, not-false, both-true, either-true, either-false, failing, never, implies, _nor_, last}
-use Rattle.demands.specs.Conditions.{InRange, Fits, On, Off, NotBuilt, NoMode, FirstRefused, Pair, TwoWords, word, more, Begins, Continues, FetchRefused, taken, newX, newY, Stops, stopNumber, LatchIs}
-use Rattle.definition.proofs.StepLaws.{pick-keeps, step-done, step-refused, refusal-is}
+use Rattle.demands.specs.Conditions.{InRange, Fits, On, NotBuilt, NoMode, FirstRefused, Pair, TwoWords, SecondRefused, word, more, Begins, Continues, FetchRefused, taken, newX, newY, Stops, stopNumber, LatchIs}
+use Rattle.definition.proofs.StepLaws.{pick-keeps, step-done, step-refused}
 use Rattle.demands.proofs.Kept.{in-range}
-use Rattle.demands.proofs.WordAnswers.{is-off, not-built, no-mode, is-pair, has-second, is-status-a}
+use Rattle.demands.proofs.WordAnswers.{is-off, not-built, no-mode, status-a-taken, is-pair, has-second, is-status-a}
 
 wrong : {A : Type 0} → _≡_ {A = Bool} true false → A
 wrong e = absurd (apart e)
@@ -68,9 +69,6 @@ staying Stay r = (λ e. r, λ h. refl)
 staying (Set v) r = not-false so in-range
 staying (Move d) r = not-false so in-range
 
-off : (v : ℕ) → (bit 15 v ≡ false) ↔ Off 15 v
-off v = back not-true so is-off (v / 2 ^ 15)
-
 -- ---- the refusals of a step, number by number
 module _ (g : Given) (m : Machine) where
   abbrev w : ℕ
@@ -106,9 +104,9 @@ module _ (g : Given) (m : Machine) where
   more-passes : (firstOf fetch2 ≡ 0) ↔ (TwoWords (m .mode) w → numberIn (second g m) ≡ 0)
   more-passes = passes-if (hasSecond i) (fetchRefusals (second g m)) so implies (has-second (m .mode) w) (fetch-is (second g m))
 
-  pair-passes : (firstOf word2 ≡ 0) ↔ (Pair (m .mode) w → Off 15 v)
+  pair-passes : (firstOf word2 ≡ 0) ↔ (Pair (m .mode) w → SecondRefused v → ⊥)
   unfolding secondRefusals
-  pair-passes = passes-if (isPaired i) (secondRefusals v) so implies (is-pair (m .mode) w) (none-holds (secondRefusals v) refl so (λ q. off v .0 (q .0), λ q. (off v .1 q, tt)))
+  pair-passes = passes-if (isPaired i) (secondRefusals v) so implies (is-pair (m .mode) w) (none-holds (secondRefusals v) refl so last is-equal)
 
   -- up to the second fetch, and from there to the move; n is no number of what is passed
   past-first : (n : ℕ) → names n fetch1 ≡ false → names n word1 ≡ false → (refusal g m ≡ n) ↔ (Begins g m × (firstOf (fetch2 ++ (word2 ++ going)) ≡ n))
@@ -123,7 +121,7 @@ module _ (g : Given) (m : Machine) where
   past-second n k l p q =
       past-first n k l
       so itself and (in-later n fetch2 (word2 ++ going) refl p so more-passes and (in-later n word2 going refl q so pair-passes and itself))
-      so (λ w. (record { begins = w .0; fetched = w .1 .0; clear = w .1 .1 .0 }, w .1 .1 .1), λ w. (w .0 .begins, (w .0 .fetched, (w .0 .clear, w .1))))
+      so (λ w. (record { begins = w .0; fetched = w .1 .0; taken = w .1 .1 .0 }, w .1 .1 .1), λ w. (w .0 .begins, (w .0 .fetched, (w .0 .taken, w .1))))
 
   -- a number of fetches; and a number of first words
   by-a-fetch : (n : ℕ) → 0 < n → names n word1 ≡ false → names n (word2 ++ going) ≡ false → (refusal g m ≡ n) ↔ FetchRefused n g m
@@ -264,9 +262,9 @@ module _ (g : Given) (m : Machine) (f : Fits m) (running : m .status ≡ 0) wher
       let e = is-status-a (m .mode) (word g m) on c in
       refused-0 g m f .1 (
         record {
-          begins = record { fetched = z; taken = ⊎-elim (λ q. ⊎-elim (λ h. omega arith) (λ h. let k = h .1 in omega arith) (q .1)) (λ q. let o = q .0 in omega arith) };
+          begins = record { fetched = z; taken = status-a-taken (m .mode) (word g m) on c };
           fetched = λ q. absurd (⊎-elim (λ h. let k = h .1 in omega arith) (λ h. let o = h .0 in omega arith) q);
-          clear = λ q. absurd (let o = q .0 in omega arith);
+          taken = λ q. absurd (let o = q .0 in omega arith);
         },
         (rw e (f .x), rw e (f .y)),
       )

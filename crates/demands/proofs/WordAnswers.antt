@@ -1,5 +1,5 @@
 -- What the tests on words ask, as plain conditions.
-use Prim.Native.Nat.{ℕ, zero, suc, _<_, _/_, _%_, _^_}
+use Prim.Native.Nat.{ℕ, zero, suc, _≤_, _<_, _/_, _%_, _^_}
 use mathlib.Core.Bool.{Bool, true, false, not, _&&_}
 use mathlib.Core.Path.{_≡_, refl, sym}
 use mathlib.Core.Logic.{_⊎_, inl, inr, ⊎-elim, _↔_}
@@ -13,9 +13,9 @@ use Rattle.definition.specs.declared.Item.{Item}
 use Rattle.definition.specs.declared.Instruction.{Instruction}
 use Rattle.definition.specs.declared.Instruction.the-variants.{Does}
 use Rattle.definition.proofs.Exactly.{apart}
-use Rattle.definition.proofs.Plain.{_so_, _and_, _or_, is-most, is-equal, not-equal, not-true, both-true, either-true}
+use Rattle.definition.proofs.Plain.{_so_, _and_, _or_, is-most, is-equal, not-equal, not-true, both-true, either-true, failing}
 use Rattle.definition.proofs.StepLaws.{pick-keeps}
-use Rattle.demands.specs.Conditions.{On, NotBuilt, NoMode, Pair, TwoWords}
+use Rattle.demands.specs.Conditions.{On, Off, NotBuilt, NoMode, FirstRefused, Pair, TwoWords, SecondRefused}
 
 -- ---- a bit that is not set is clear
 pub is-off : (n : ℕ) → (not (eqb (n % 2) 1) ≡ true) ↔ (n % 2 ≡ 0)
@@ -33,18 +33,31 @@ not-built w = both-true so is-equal and (either-true so is-equal or (both-true s
 pub no-mode : (mode w : ℕ) → (not (bit 15 w) && eqb mode none ≡ true) ↔ NoMode mode w
 no-mode mode w = both-true so is-off (w / 2 ^ 15) and is-equal
 
+-- ---- words that no test of a first word refuses
+-- a data word in a mode
+pub data-taken : (mode w : ℕ) → Off 15 w → mode ≤ 6 → FirstRefused mode w → ⊥
+data-taken mode w off some = ⊎-elim (λ q. let on = q .0 in omega arith) (λ q. let e = q .1 in omega arith)
+
+-- a status A
+pub status-a-taken : (mode w : ℕ) → On 15 w → code w ≡ 14 → FirstRefused mode w → ⊥
+status-a-taken mode w on c = ⊎-elim (λ q. ⊎-elim (λ h. omega arith) (λ h. let k = h .1 in omega arith) (q .1)) (λ q. let o = q .0 in omega arith)
+
+-- ---- a second word that is not refused has bit 15 clear
+pub second-taken : (v : ℕ) → (SecondRefused v → ⊥) ↔ Off 15 v
+second-taken v = (λ h. is-off (v / 2 ^ 15) .0 (not-true .1 (failing .1 (λ e. h (is-equal .0 e)))), λ o q. omega arith)
+
 -- ---- which words have a second: by the code, and by the mode
-nor : {A : Type 0} → (A → ⊥) → (_≡_ {A = Bool} false true) ↔ A
-nor h = (λ e. absurd (apart (sym e)), λ a. absurd (h a))
+neither : {A : Type 0} → (A → ⊥) → (_≡_ {A = Bool} false true) ↔ A
+neither h = (λ e. absurd (apart (sym e)), λ a. absurd (h a))
 
 jumping : (w : ℕ) → (jumps (order w) ≡ true) ↔ (code w ≡ 12)
 unfolding order setsMode
 jumping w =
-    pick-keeps P (setsMode (code w)) (λ e. nor (not-twelve (both-true {s = leb 1 (code w)} .0 e .1)))
+    pick-keeps P (setsMode (code w)) (λ e. neither (not-twelve (both-true {s = leb 1 (code w)} .0 e .1)))
     λ a. pick-keeps P (eqb (code w) 12) (λ e. (λ h. is-equal .0 e, λ h. refl))
-    λ b. let n = not-equal .0 b in pick-keeps P (eqb (code w) 13) (λ e. nor n)
-    λ c. pick-keeps P (eqb (code w) 14) (λ e. nor n)
-    λ d. pick-keeps P (bit 10 w) (λ e. nor n) (λ e. nor n)
+    λ b. let n = not-equal .0 b in pick-keeps P (eqb (code w) 13) (λ e. neither n)
+    λ c. pick-keeps P (eqb (code w) 14) (λ e. neither n)
+    λ d. pick-keeps P (bit 10 w) (λ e. neither n) (λ e. neither n)
   where
     P : Order → Type 0
     P o = (jumps o ≡ true) ↔ (code w ≡ 12)
@@ -55,11 +68,11 @@ jumping w =
 pairing : (mode w : ℕ) → (paired (item mode w) ≡ true) ↔ ((mode ≡ 2) ⊎ (mode ≡ 3))
 unfolding item
 pairing mode w =
-    pick-keeps P (eqb mode 1) (λ e. let one = eqb-true mode 1 e in nor (⊎-elim (λ q. omega arith) (λ q. omega arith)))
+    pick-keeps P (eqb mode 1) (λ e. let one = eqb-true mode 1 e in neither (⊎-elim (λ q. omega arith) (λ q. omega arith)))
     λ a. pick-keeps P (eqb mode 2) (λ e. (λ h. inl (is-equal .0 e), λ h. refl))
     λ b. pick-keeps P (eqb mode 3) (λ e. (λ h. inr (is-equal .0 e), λ h. refl))
-    λ c. let n = ⊎-elim (not-equal .0 b) (not-equal .0 c) in pick-keeps P (eqb mode 4) (λ e. nor n)
-    λ d. pick-keeps P (eqb mode 5) (λ e. nor n) (λ e. nor n)
+    λ c. let n = ⊎-elim (not-equal .0 b) (not-equal .0 c) in pick-keeps P (eqb mode 4) (λ e. neither n)
+    λ d. pick-keeps P (eqb mode 5) (λ e. neither n) (λ e. neither n)
   where
     P : Item → Type 0
     P it = (paired it ≡ true) ↔ ((mode ≡ 2) ⊎ (mode ≡ 3))
@@ -67,7 +80,7 @@ pairing mode w =
 pub is-pair : (mode w : ℕ) → (isPaired (decode mode w) ≡ true) ↔ Pair mode w
 unfolding decode
 is-pair mode w =
-    pick-keeps P (bit 15 w) (λ e. let on = eqb-true (w / 2 ^ 15 % 2) 1 e in nor (λ q. let off = q .0 in omega arith))
+    pick-keeps P (bit 15 w) (λ e. let on = eqb-true (w / 2 ^ 15 % 2) 1 e in neither (λ q. let off = q .0 in omega arith))
     (λ e. pairing mode w so (λ h. (is-off (w / 2 ^ 15) .0 (not-true .1 e), h), λ q. q .1))
   where
     P : Instruction → Type 0

@@ -104,6 +104,10 @@ Pair mode w = Off 15 w × ((mode ≡ 2) ⊎ (mode ≡ 3))
 abbrev pub TwoWords : ℕ → ℕ → Type 0
 TwoWords mode w = (On 15 w × (code w ≡ 12)) ⊎ Pair mode w
 
+-- what a second word of modes 2 and 3 is refused for
+abbrev pub SecondRefused : ℕ → Type 0
+SecondRefused v = On 15 v
+
 -- ---- a step, stage by stage; w and v are its words
 abbrev pub word : Given → Machine → ℕ
 word g m = wordIn (first g m)
@@ -116,11 +120,11 @@ pub record Begins (g : Given) (m : Machine) : Type 0 where
   pub fetched : numberIn (first g m) ≡ 0
   pub taken : FirstRefused (m .mode) (word g m) → ⊥
 
--- and where there is a second word, it is fetched and is not 26
+-- and where there is a second word, it is fetched and, in modes 2 and 3, not refused
 pub record Continues (g : Given) (m : Machine) : Type 0 where
   pub begins : Begins g m
   pub fetched : TwoWords (m .mode) (word g m) → numberIn (second g m) ≡ 0
-  pub clear : Pair (m .mode) (word g m) → Off 15 (more g m)
+  pub taken : Pair (m .mode) (word g m) → SecondRefused (more g m) → ⊥
 
 -- a fetch of this step is refused with this number: the first, or the second where there is one
 abbrev pub FetchRefused : ℕ → Given → Machine → Type 0

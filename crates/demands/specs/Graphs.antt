@@ -18,6 +18,7 @@ use Rattle.definition.specs.declared.Pixel.{Pixel}
 use Rattle.definition.specs.declared.Machine.{Machine}
 use Rattle.definition.specs.declared.Fetched.the-variants.{Word}
 use Rattle.demands.specs.Conditions.{On, Off}
+use Rattle.demands.specs.With.{withMachine, withImage, withCounts}
 
 -- the axis that is stepped along: X by the words of mode 5, Y by those of mode 4
 pub data Axis : Type 0 where
@@ -86,11 +87,9 @@ shown m ps = pick (m .write) (inside (shapeOf m) ps) []
 -- a state after n words of one step each that lit these pixels, at another counter and position
 abbrev pub went : Axis → State → ℕ → Units → Units → ℕ → List Pixel → State
 went axis s a u v n ps =
-    record {
-      machine = placed axis (withCounter (s .machine) a) u v;
-      image = stores (shapeOf (s .machine)) (penOf (s .machine)) (s .image) (shown (s .machine) ps);
-      counts = summed (s .counts) (record { steps = n; words = n; stores = length (shown (s .machine) ps) });
-    }
+    let m = placed axis (withCounter (s .machine) a) u v in
+    let im = stores (shapeOf (s .machine)) (penOf (s .machine)) (s .image) (shown (s .machine) ps) in
+    withCounts (withImage (withMachine s m) im) (summed (s .counts) (record { steps = n; words = n; stores = length (shown (s .machine) ps) }))
 
 -- a running machine in a graph mode stands before data words, lit or blank, with room for every step
 pub record Ready (axis : Axis) (g : Given) (s : State) (ws : List ℕ) : Type 0 where

@@ -2,9 +2,10 @@
 use Prim.Native.Nat.{ℕ}
 use Rattle.definition.specs.Image.{Left, left}
 use Rattle.definition.specs.Machine.{withStatus}
-use Rattle.definition.specs.Run.{summed, State, withCounts}
+use Rattle.definition.specs.Run.{summed, State}
 use Rattle.definition.specs.declared.Counts.{Counts}
 use Rattle.definition.specs.declared.Ran.{Ran}
+use Rattle.demands.specs.With.{withCounts}
 
 -- what a run leaves whose next instruction, from this state, is refused
 abbrev pub refusedAfter : ℕ → State → Left Ran

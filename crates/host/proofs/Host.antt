@@ -8,9 +8,10 @@ use lib.ListN.{length}
 use lib.IntN.{ℤ}
 use Rattle.definition.specs.Choice.{pick}
 use Rattle.definition.specs.Image.{imageBytes, Left}
-use Rattle.definition.specs.Calls.{Lent, withFile, startCall, runCall, stepCall}
+use Rattle.definition.specs.Calls.{Lent, startCall, runCall, stepCall}
 use Rattle.definition.specs.declared.Machine.{Machine}
 use Rattle.demands.specs.Conditions.{Accepted, SameWords}
+use Rattle.demands.specs.With.{withFile}
 use Rattle.demands.proofs.Demands as demands
 use Rattle.numbers.specs.Numbers.{numbersOf, machineOf, flags}
 use Rattle.numbers.specs.declared.HostMachine.{HostMachine}
