@@ -4,11 +4,12 @@ use mathlib.Core.Bool.{Bool, true, false, _&&_}
 use mathlib.Core.List.{List, [], _∷_}
 use mathlib.Core.Path.{_≡_, refl}
 use Rattle.definition.specs.Choice.{pick, among, Test, firstOf}
-use Rattle.definition.specs.Machine.{refusalNumbers, statuses}
-use Rattle.definition.specs.Step.{Given, first, second, instruction, refusals, refusal}
+use Rattle.definition.specs.Machine.{fresh, refusalNumbers, statuses}
+use Rattle.definition.specs.Step.{ordered, Given, first, second, instruction, refusals, refusal}
 use Rattle.definition.specs.Calls.{Lent, doorNumbers, runDoors, runDoor}
 use Rattle.definition.specs.declared.Machine.{Machine}
 use Rattle.definition.specs.declared.Fetched.{Fetched}
+use Rattle.definition.specs.declared.Order.the-variants.{StatusA}
 use Rattle.definition.specs.declared.Instruction.{Instruction}
 use Rattle.definition.proofs.Opened.{rules}
 use Rattle.definition.proofs.Exactly.{names}
@@ -37,6 +38,15 @@ refusal-is g m = first-is (λ n. among n (0 ∷ refusalNumbers)) (refusals m (fi
 pub refusals-all : (m : Machine) (got : Fetched) (i : Instruction) (more : Fetched) → all-of (λ n. names n (refusals m got i more)) refusalNumbers ≡ true
 unfolding rules
 refusals-all m got i more = refl
+
+-- ---- a status: a fresh machine's, a stop's with the latch off or on, or a refusal's number
+abbrev pub stopped : Bool → ℕ
+unfolding ordered
+stopped latch = ordered fresh (StatusA (record { loads = true; latch = latch; stops = true })) .status
+
+pub statuses-all : all-of (λ n. among n (fresh .status ∷ stopped false ∷ stopped true ∷ refusalNumbers)) statuses ≡ true
+unfolding ordered
+statuses-all = refl
 
 -- ---- a run: 0 or a door's number
 pub door-is : (l : Lent) (m : Machine) (im : List ℕ) (b : ℕ) → among (runDoor l m im b) (0 ∷ doorNumbers) ≡ true
