@@ -7,8 +7,11 @@
 //! 0 kind: 1 check, 2 fresh, 3 start, 4 step, 5 run, 6 clear, 7 read_pixel; 1 mode; 2 value;
 //! 3 write; 4 latch; 5 increment; 6 status; 7 is 0; 8 counter, 16 bits; 10 address to start at,
 //! 16 bits; 12 X i; 16 Y i; 20 budget, 32 bits; 24 and 28 X and Y of the pixel to read i;
-//! 32 length of the image, 32 bits; 36 its seed, 32 bits; 40 number of words, 16 bits; 42 to 63
-//! are 0, kept for what a case may need later.
+//! 32 length of the image, 32 bits; 36 its seed, 32 bits; 40 number of words, 16 bits.
+//!
+//! The rest is 0, with a place for what is not built: 42 ones only; 43 shape; 44 saved counter,
+//! 32 bits; 48 length of a lent character set, 16 bits; 50 pressed; 52 seed of the set, 32 bits;
+//! 56 and 60 X and Y of a crosshair i.
 //!
 //! For each byte of the image a number, 0 at first, becomes 69,069 times itself and the seed, in
 //! 32 bits; the byte is its highest eight bits.
@@ -139,7 +142,7 @@ impl Case {
         bytes.extend((self.image_length as u32).to_le_bytes());
         bytes.extend(self.image_seed.to_le_bytes());
         bytes.extend((self.file.len() as u16).to_le_bytes());
-        bytes.extend([0; HEAD - 42]);
+        bytes.resize(HEAD, 0);
         bytes.extend(self.file.iter().flat_map(|word| word.to_le_bytes()));
         bytes
     }

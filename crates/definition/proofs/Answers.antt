@@ -4,7 +4,7 @@ use mathlib.Core.Bool.{Bool, true, false, _&&_}
 use mathlib.Core.List.{List, [], _∷_}
 use mathlib.Core.Path.{_≡_, refl}
 use Rattle.definition.specs.Choice.{pick, among, Test, firstOf}
-use Rattle.definition.specs.Machine.{fresh, refusalNumbers, statuses}
+use Rattle.definition.specs.Machine.{fresh, withLatch, refusalNumbers, statuses}
 use Rattle.definition.specs.Step.{ordered, Given, first, second, instruction, refusals, refusal}
 use Rattle.definition.specs.Calls.{Lent, doorNumbers, runDoors, runDoor}
 use Rattle.definition.specs.declared.Machine.{Machine}
@@ -42,7 +42,7 @@ refusals-all m got i more = refl
 -- ---- a status: a fresh machine's, a stop's with the latch off or on, or a refusal's number
 abbrev pub stopped : Bool → ℕ
 unfolding ordered
-stopped latch = ordered fresh (StatusA (record { loads = true; latch = latch; stops = true })) .status
+stopped latch = ordered (withLatch fresh latch) (StatusA (record { loads = false; latch = false; stops = true })) .status
 
 pub statuses-all : all-of (λ n. among n (fresh .status ∷ stopped false ∷ stopped true ∷ refusalNumbers)) statuses ≡ true
 unfolding ordered

@@ -10,8 +10,10 @@
 //   24 X i, 28 Y i: the pixel to read
 //   32 length of the image, 32 bits, at most 65,537; 36 its seed, 32 bits
 //   40 number of words, 16 bits, at most 32,768
-//   kept for what is not built, and 0: 42 ones, 43 shape, 44 saved counter, 32 bits, 48 length of a lent character set, 16 bits, 50 pressed,
-//   51 nothing, 52 seed of the set, 32 bits, 56 X i, 60 Y i of a crosshair
+// The rest is 0, with a place for what is not built:
+//   42 ones only, 43 shape, 44 saved counter, 32 bits
+//   48 length of a lent character set, 16 bits; 52 its seed, 32 bits
+//   50 pressed; 56 X i, 60 Y i of a crosshair
 // For each byte of the image a number, 0 at first, becomes 69,069 times itself and the seed, in 32 bits; the byte is its highest eight
 // bits. With the seed 0 every byte is 0.
 //
