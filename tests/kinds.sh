@@ -66,7 +66,7 @@ vector::raised opens 1
 vector::by_one Pixels 2 opens 2
 vector::rounded Pixels 1
 # position (0, 0); the increment, which is in units
-display::fresh Units 2
+still::fresh Units 2
 line::refused Units 2
 items::grown Units 1
 # a host's numbers: X and Y of its machine are units, those of the pixel that it reads are pixels
