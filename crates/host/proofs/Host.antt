@@ -21,7 +21,7 @@ use Rattle.numbers.specs.declared.HostStarted.{HostStarted}
 use Rattle.numbers.proofs.NumberLaws.{machine-back, flags-of-numbers}
 use Rattle.host.specs.Calls.{hostStart, hostTurnedAway, hostRun, flagDoor, startedNumbers, ranNumbers}
 use Rattle.host.specs.Conditions.{HostFits}
-use Rattle.host.specs.Promises.{Promise-host-fresh, Promise-host-start, Promise-host-run, Promise-host-step, Promise-host-read}
+use Rattle.host.specs.Promises.{Promise-host-fresh, Promise-host-start, Promise-host-run, Promise-host-step, Promise-host-read, Promise-host-interface}
 use Rattle.host.proofs.HostLaws as laws
 
 -- ==== one outcome
@@ -41,6 +41,9 @@ one-host-step l m im p q = one-host-run l m im 1 p q
 
 pub one-host-read : (im : List ℕ) (x y : ℤ) {r r′ : HostRead} → Promise-host-read im x y r → Promise-host-read im x y r′ → r ≡ r′
 one-host-read im x y p q = p ∙ sym q
+
+pub one-host-interface : {r r′ : ℕ} → Promise-host-interface r → Promise-host-interface r′ → r ≡ r′
+one-host-interface p q = p ∙ sym q
 
 -- ==== every machine in numbers
 -- with both flags in range a call is document 01's call on the machine that the numbers stand for, in numbers; with a flag out of range start answers 16, and

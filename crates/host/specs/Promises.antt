@@ -7,7 +7,7 @@ use Rattle.definition.specs.Units.{pixel}
 use Rattle.definition.specs.Image.{square, left}
 use Rattle.definition.specs.Machine.{fresh}
 use Rattle.definition.specs.Calls.{Lent, readCall}
-use Rattle.numbers.specs.Numbers.{numbersOf}
+use Rattle.numbers.specs.Numbers.{numbersOf, interface}
 use Rattle.numbers.specs.declared.HostMachine.{HostMachine}
 use Rattle.numbers.specs.declared.HostStarted.{HostStarted}
 use Rattle.numbers.specs.declared.HostRan.{HostRan}
@@ -28,3 +28,6 @@ Promise-host-step l m im r after = Promise-host-run l m im 1 r after
 
 abbrev pub Promise-host-read : List ℕ → ℤ → ℤ → HostRead → Type 0
 Promise-host-read im x y r = r ≡ readNumbers (readCall square im (pixel x y))
+
+abbrev pub Promise-host-interface : ℕ → Type 0
+Promise-host-interface r = r ≡ interface

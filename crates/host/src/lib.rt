@@ -1,4 +1,5 @@
 // The calls for a host program in C, which include/roadparsnip.h declares: plain numbers and slices, and no call asks anything of its caller.
+// Then the number of the interface, by which a host sees that the header and the library fit.
 use definition::Pixel;
 use definition::Pixels;
 use numbers::HostMachine;
@@ -7,7 +8,7 @@ use numbers::HostRead;
 use numbers::HostStarted;
 ghost use Rattle.definition.specs.Calls.{plain};
 ghost use Rattle.definition.specs.Promises.{Promise-check, Promise-clear};
-ghost use Rattle.host.specs.Promises.{Promise-host-fresh, Promise-host-start, Promise-host-run, Promise-host-step, Promise-host-read};
+ghost use Rattle.host.specs.Promises.{Promise-host-fresh, Promise-host-start, Promise-host-run, Promise-host-step, Promise-host-read, Promise-host-interface};
 
 #[no_mangle]
 pub extern "C" fn roadparsnip_check(file: &[u16]) -> u8
@@ -76,4 +77,11 @@ pub extern "C" fn roadparsnip_read_pixel(image: &[u8], x: i32, y: i32) -> HostRe
         digit: read.digit,
         answer: read.answer,
     }
+}
+
+#[no_mangle]
+pub extern "C" fn roadparsnip_interface() -> u32
+    ensures { λ r. ⌜ Promise-host-interface r ⌝ }
+{
+    numbers::interface_number()
 }

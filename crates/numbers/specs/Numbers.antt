@@ -41,3 +41,7 @@ given-back m n = pick (flags m) (numbersOf n) m
 -- what a run or a step answered, in numbers
 unfoldable pub ranOf : HostMachine → Ran → HostRan
 ranOf m r = record { machine = given-back m (r .machine); steps = r .counts .steps; words = r .counts .words; stores = r .counts .stores; answer = r .answer }
+
+-- ---- the interface in C: raised when a record or a signature of include/roadparsnip.h changes
+abbrev pub interface : ℕ
+interface = 2

@@ -123,3 +123,16 @@ pub fn ran_of(m: HostMachine, ran: Ran) -> HostRan
         answer: ran.answer,
     }
 }
+
+// ---- the interface
+ghost use Rattle.numbers.specs.Numbers.{interface};
+
+// The number of the interface in C, the same as ROADPARSNIP_INTERFACE in include/roadparsnip.h.
+// Raise both when a record or a signature of that header changes, and the definition of the number too.
+const INTERFACE: u32 = 2;
+
+pub fn interface_number() -> u32
+    ensures { λ r. ⌜ r ≡ interface ⌝ }
+{
+    INTERFACE
+}
