@@ -10,7 +10,8 @@
 #include <stddef.h>
 #include <stdint.h>
 
-/* Raised whenever a record or a signature below changes, so that a host can test for the one that it was written for. */
+/* The number of this interface. It is raised whenever a record or a signature below changes. roadparsnip_interface() returns that of
+   the library: compare the two once, at the start of your program. */
 #define ROADPARSNIP_INTERFACE 2
 
 #ifdef __cplusplus
@@ -106,6 +107,10 @@ uint8_t roadparsnip_clear(uint8_t *image, size_t image_bytes);
 
 /* Reads the value of pixel (x, y). x and y may be negative. Answers 0, or 11 or 31 with digit 0. */
 roadparsnip_read roadparsnip_read_pixel(const uint8_t *image, size_t image_bytes, int32_t x, int32_t y);
+
+/* Returns the interface number that the library was built with. If it is not ROADPARSNIP_INTERFACE, this header belongs to another
+   library: make no other call. */
+uint32_t roadparsnip_interface(void);
 
 #ifdef __cplusplus
 }

@@ -1,6 +1,6 @@
 #!/bin/sh
-# The library in C: ./build, then examples/host.c and the program of docs/HOST.md, compiled with every warning an error, against what they should print;
-# and ./build as it is called with something wrong.
+# The library in C: ./build, then examples/host.c and the programs of docs/HOST.md, compiled with every warning an error, against what they should print;
+# the names that the library has; that the interface number rises when the header changes; and ./build as it is called with something wrong.
 set -eu
 cd "$(dirname "$0")/.."
 # tests that prove or build in this folder take turns
@@ -17,6 +17,32 @@ fail() {
 
 run=tools/run-x86
 [ "$(uname -m)" != x86_64 ] || run=
+
+# ---- the interface number: raised when a record or a signature changes
+# HEADER: its records and signatures, without comments and constants
+declared() {
+    sed '/^#/d' "$1" | tr -s '[:space:]' ' ' | sed -e 's#/\*[^*]*\*\**\([^/*][^*]*\*\**\)*/##g' -e 's/enum {[^}]*};//g'
+}
+# HEADER: its number, and a sum over what it declares; blanks do not count
+numbered() {
+    sum=$(declared "$1" | tr -d ' ' | cksum)
+    echo "$(sed -n 's/^#define ROADPARSNIP_INTERFACE //p' "$1") ${sum%% *}"
+}
+# a line for each interface
+cat >"$work/interfaces" <<'END'
+2 2734585193
+END
+now=$(numbered include/roadparsnip.h)
+grep -qx "$now" "$work/interfaces" || fail "the records or the signatures of include/roadparsnip.h are not those listed for interface ${now% *}.
+If you changed one, raise ROADPARSNIP_INTERFACE, the number in crates/numbers/src/lib.rt and the one in crates/numbers/specs/Numbers.antt.
+Then add the new number to the list in tests/host.sh, with the sum ${now#* }. If you only added a function, put this sum into the line of ${now% *}."
+# a new field is seen, and so is another signature; a comment and a new answer are not
+for edit in 's/uint8_t status;/& uint8_t spare;/' 's/, uint16_t address)/, uint32_t address)/'; do
+    sed "$edit" include/roadparsnip.h >"$work/changed.h"
+    [ "$(numbered "$work/changed.h")" != "$now" ] || fail "the sum over the header does not see $edit"
+done
+sed -e 's#/\* stopped \*/#/* it has stopped */#' -e 's/^ *ROADPARSNIP_STOPPED = 1,/ROADPARSNIP_NEW = 3, &/' include/roadparsnip.h >"$work/changed.h"
+[ "$(numbered "$work/changed.h")" = "$now" ] || fail 'the sum over the header sees a comment or an answer'
 
 # ---- the example, slow and fast
 ./build "$work/lib" >"$work/said" 2>"$work/error" || fail "./build fails: $(cat "$work/error")"
@@ -35,6 +61,22 @@ sed -n 's/^    \([.#]*\)$/\1/p' docs/HOST.md >"$work/chart"
 [ "$(wc -l <"$work/chart")" -eq 8 ] || fail 'docs/HOST.md has no chart of eight rows'
 tools/cc-x86 -std=c11 -Wall -Wextra -Wpedantic -Werror -O2 -I"$work/lib" -o "$work/host" "$work/chart.c" "$work/lib/libroadparsnip.a"
 $run "$work/host" | diff "$work/chart" - || fail 'the program of docs/HOST.md prints something else than it says there'
+
+# ---- the other one compares the interface numbers: with the library's own header, and with a header of another interface
+sed -n '/^    #include/,/^    }$/s/^    //p' docs/HOST.md >"$work/numbers.c"
+mkdir "$work/other"
+sed 's/^#define ROADPARSNIP_INTERFACE .*/#define ROADPARSNIP_INTERFACE 999/' include/roadparsnip.h >"$work/other/roadparsnip.h"
+for header in lib other; do
+    tools/cc-x86 -std=c11 -Wall -Wextra -Wpedantic -Werror -O2 -I"$work/$header" -o "$work/$header.out" "$work/numbers.c" "$work/lib/libroadparsnip.a"
+done
+$run "$work/lib.out" 2>"$work/error" || fail "the library's header and the library do not fit: $(cat "$work/error")"
+if $run "$work/other.out" 2>"$work/error"; then fail 'the program of docs/HOST.md runs with a header of another interface'; fi
+grep -q "interface 999, and the library has ${now% *}" "$work/error" || fail "with a header of interface 999 the program of docs/HOST.md says '$(cat "$work/error")'"
+
+# ---- the library has the functions of the header, and no other name for a host to run into
+declared include/roadparsnip.h | grep -o 'roadparsnip_[a-z_]*(' | tr -d '(' | sort >"$work/functions"
+"$(tools/cc-x86 -print-prog-name=nm)" -P -g --defined-only "$work/lib/libroadparsnip.a" | sed -n 's/ [A-Za-z] .*//p' | sort | diff "$work/functions" - ||
+    fail 'the header declares the functions on the left, and the library has those on the right'
 
 # ---- the header: the machine has no gap, the records are as large as the code makes them, and a file that includes nothing else compiles
 cat >"$work/alone.c" <<'END'
