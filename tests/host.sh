@@ -33,9 +33,11 @@ cat >"$work/interfaces" <<'END'
 2 2734585193
 END
 now=$(numbered include/roadparsnip.h)
-grep -qx "$now" "$work/interfaces" || fail "the records or the signatures of include/roadparsnip.h are not those listed for interface ${now% *}.
-If you changed one, raise ROADPARSNIP_INTERFACE, the number in crates/numbers/src/lib.rt and the one in crates/numbers/specs/Numbers.antt.
-Then add the new number to the list in tests/host.sh, with the sum ${now#* }. If you only added a function, put this sum into the line of ${now% *}."
+number=${now% *}
+grep -q "^$number " "$work/interfaces" || fail "ROADPARSNIP_INTERFACE is $number, and tests/host.sh has no line for it: add '$now' to its list."
+grep -qx "$now" "$work/interfaces" || fail "a record or a signature of include/roadparsnip.h has changed, and ROADPARSNIP_INTERFACE is still $number.
+Raise it there, in crates/numbers/src/lib.rt and in crates/numbers/specs/Numbers.antt. Then add a line for it to the list in tests/host.sh: the new number, and ${now#* }.
+If you only added a function, the number stays: put ${now#* } into its line."
 # a new field is seen, and so is another signature; a comment and a new answer are not
 for edit in 's/uint8_t status;/& uint8_t spare;/' 's/, uint16_t address)/, uint32_t address)/'; do
     sed "$edit" include/roadparsnip.h >"$work/changed.h"
@@ -71,12 +73,12 @@ for header in lib other; do
 done
 $run "$work/lib.out" 2>"$work/error" || fail "the library's header and the library do not fit: $(cat "$work/error")"
 if $run "$work/other.out" 2>"$work/error"; then fail 'the program of docs/HOST.md runs with a header of another interface'; fi
-grep -q "interface 999, and the library has ${now% *}" "$work/error" || fail "with a header of interface 999 the program of docs/HOST.md says '$(cat "$work/error")'"
+grep -q "interface 999, and the library has $number" "$work/error" || fail "with a header of interface 999 the program of docs/HOST.md says '$(cat "$work/error")'"
 
 # ---- the library has the functions of the header, and no other name for a host to run into
 declared include/roadparsnip.h | grep -o 'roadparsnip_[a-z_]*(' | tr -d '(' | sort >"$work/functions"
 "$(tools/cc-x86 -print-prog-name=nm)" -P -g --defined-only "$work/lib/libroadparsnip.a" | sed -n 's/ [A-Za-z] .*//p' | sort | diff "$work/functions" - ||
-    fail 'the header declares the functions on the left, and the library has those on the right'
+    fail 'other names than the header declares: < as declared, > as the library has them'
 
 # ---- the header: the machine has no gap, the records are as large as the code makes them, and a file that includes nothing else compiles
 cat >"$work/alone.c" <<'END'

@@ -1,5 +1,5 @@
 // The calls for a host program in C, which include/roadparsnip.h declares: plain numbers and slices, and no call asks anything of its caller.
-// Then the number of the interface, by which a host sees that the header and the library fit.
+// Then the number of the interface, by which a host sees whether its header fits the library.
 use definition::Pixel;
 use definition::Pixels;
 use numbers::HostMachine;
