@@ -7,9 +7,10 @@ use definition::Order;
 use definition::StopBits;
 use definition::Units;
 use definition::WriteBits;
+ghost use Prim.Native.Nat.{ℕ};
 ghost use mathlib.Core.Path.{_≡_};
 ghost use Rattle.definition.specs.Choice.{firstOf};
-ghost use Rattle.definition.specs.Words.{setsMode, notBuilt, order, item, decode, shortX, shortY, long, coordinate, firstRefusals, secondRefusals};
+ghost use Rattle.definition.specs.Words.{bits, setsMode, notBuilt, order, item, decode, shortX, shortY, long, coordinate, firstRefusals, secondRefusals};
 
 pub const NO_MODE: u8 = 255;
 
@@ -118,16 +119,31 @@ pub fn coordinate(word: u16) -> Units
     units::move_of(false, word % 1024)
 }
 
-// 24, 25, or 0 where the word is not refused.
+// What a first word is refused with, by its bit 15; 0 where it is not refused.
 pub fn first_refusal(mode: u8, word: u16) -> u8
     ensures { λ r. ⌜ r ≡ firstOf (firstRefusals mode word) ⌝ }
 {
     if word / 32768 % 2 == 1 {
-        if not_built(word / 2048 % 16) {
-            return 24;
-        }
-        return 0;
+        return order_refusal(word);
     }
+    item_refusal(mode)
+}
+
+// 24 or 0, for a word with bit 15 set, in every mode.
+fn order_refusal(word: u16) -> u8
+    requires { ⌜ bits 15 15 word ≡ 1 ⌝ }
+    ensures { λ r. ⌜ ((mode : ℕ) → r ≡ firstOf (firstRefusals mode word)) ⌝ }
+{
+    if not_built(word / 2048 % 16) {
+        return 24;
+    }
+    0
+}
+
+// 25 or 0, for every word with bit 15 clear.
+fn item_refusal(mode: u8) -> u8
+    ensures { λ r. ⌜ ((word : ℕ) → (bits 15 15 word ≡ 1 → ⊥) → r ≡ firstOf (firstRefusals mode word)) ⌝ }
+{
     if mode == NO_MODE {
         return 25;
     }
