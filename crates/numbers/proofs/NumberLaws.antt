@@ -1,42 +1,36 @@
 -- A machine and its numbers: each gives the other back, and the machine that a call works on is in range where all the numbers are.
 use Prim.Native.Nat.{ℕ, zero, suc, _<_, _≤_}
-use mathlib.Core.Bool.{Bool, true, false, _&&_}
-use mathlib.Core.Path.{_≡_, refl, sym}
+use mathlib.Core.Bool.{Bool, true, false, _&&_, and-false}
+use mathlib.Core.Path.{_≡_, refl, sym, _∙_}
 use native.Mathlib.Omega.{arith}
-use lib.Dec.{eqb, leb, ltb}
+use lib.Dec.{eqb, ltb}
 use mir.Syntax.{w32}
 use mir.Val.{SFits}
 use mir.Facts.{toZ-ofZ}
 use Rattle.whole.specs.Bits.{rd}
-use borrow.Author.Tests.{lt-ltb, le-ltb, ltb-true}
+use borrow.Author.Tests.{lt-ltb, le-ltb}
 use Rattle.definition.specs.Choice.{pick}
-use Rattle.definition.specs.Units.{units}
 use Rattle.definition.specs.Words.{setsMode}
-use Rattle.definition.specs.Machine.{withMode, inRange, isMode, isStatus, ranged}
+use Rattle.definition.specs.Machine.{withMode, isMode, ranged}
 use Rattle.definition.specs.declared.Machine.{Machine}
 use Rattle.definition.specs.declared.Ran.{Ran}
 use Rattle.definition.proofs.Exactly.{apart}
 use Rattle.numbers.specs.Numbers.{number, numbersOf, machineOf, flags, allRanged, taken, given-back, ranOf}
 use Rattle.numbers.specs.declared.HostMachine.{HostMachine}
 
--- ---- the flags
+-- ---- the flags: a law for each that is out of range, and one for all in range
 module _ (m : HostMachine) where
-  pub by-latch : m .write < 2 → ltb (m .latch) 2 ≡ flags m
-  unfolding flags
-  by-latch h = rw (lt-ltb _ _ h)
-
-  pub write-out : 2 ≤ m .write → ltb (m .write) 2 ≡ flags m
+  pub write-out : 2 ≤ m .write → false ≡ flags m
   unfolding flags
   write-out h = rw (le-ltb _ _ h)
 
-both : (a b : Bool) → a && b ≡ true → (a ≡ true) × (b ≡ true)
-both true b e = (refl, e)
-both false b e = absurd (apart (sym e))
+  pub latch-out : 2 ≤ m .latch → false ≡ flags m
+  unfolding flags
+  latch-out h = simp (le-ltb _ _ h, and-false)
 
-flag-back : (n : ℕ) → n < 2 → number (eqb n 1) ≡ n
-flag-back zero h = refl
-flag-back (suc zero) h = refl
-flag-back (suc (suc n)) h = absurd (omega arith)
+  pub flags-in : m .write < 2 → m .latch < 2 → true ≡ flags m
+  unfolding flags
+  flags-in w l = rw (lt-ltb _ _ w, lt-ltb _ _ l)
 
 flag-told : (t : Bool) → eqb (number t) 1 ≡ t
 flag-told true = refl
@@ -55,18 +49,20 @@ spelled m fx fy ew el = rw (toZ-ofZ fx, toZ-ofZ fy, ew, el)
 
 -- ---- there and back
 pub machine-back : (m : Machine) → machineOf (numbersOf m) ≡ m
-machine-back m = rw (flag-told (m .write), flag-told (m .latch))
+machine-back m = simp flag-told
 
 pub flags-of-numbers : (m : Machine) → flags (numbersOf m) ≡ true
 unfolding flags
-flags-of-numbers m = rw (few (m .write), few (m .latch))
+flags-of-numbers m = simp few
 
 module _ (m : HostMachine) where
   pub numbers-back : flags m ≡ true → numbersOf (machineOf m) ≡ m
-  unfolding flags
-  numbers-back e =
-      let f = both _ _ e in
-      rw (flag-back (m .write) (ltb-true _ _ (f .0)), flag-back (m .latch) (ltb-true _ _ (f .1)))
+  numbers-back e = rw (back _ (write-out m), back _ (latch-out m))
+    where
+      back : (n : ℕ) → (2 ≤ n → false ≡ flags m) → number (eqb n 1) ≡ n
+      back zero out = refl
+      back (suc zero) out = refl
+      back (suc (suc n)) out = absurd (apart (sym (out (omega arith) ∙ e)))
 
   -- ---- the machine that a call works on
   pub taken-whole : flags m ≡ true → {n : Machine} → n ≡ machineOf m → n ≡ taken m
@@ -81,14 +77,9 @@ module _ (m : HostMachine) where
   unfolding taken allRanged ranged isMode setsMode
   ranged-taken = go (flags m)
     where
-      shut : (a b v i s : Bool) → a && b && false && v && i && s ≡ false
-      shut true true v i s = refl
-      shut true false v i s = refl
-      shut false b v i s = refl
-
       go : (t : Bool) → ranged (pick t (machineOf m) (withMode (machineOf m) 0 (m .value))) ≡ t && ranged (machineOf m)
       go true = refl
-      go false = shut (inRange (units (m .x))) (inRange (units (m .y))) (ltb (m .value) 4) (leb (m .increment) 63) (isStatus (m .status))
+      go false = simp and-false
 
   pub status-taken : taken m .status ≡ m .status
   unfolding taken
@@ -100,7 +91,11 @@ module _ (m : HostMachine) where
 
   pub ranged-flags : allRanged m ≡ true → flags m ≡ true
   unfolding allRanged
-  ranged-flags e = both _ _ e .0
+  ranged-flags = go (flags m)
+    where
+      go : (t : Bool) → t && ranged (machineOf m) ≡ true → t ≡ true
+      go true e = refl
+      go false e = e
 
   -- ---- what is given back
   module _ (n : Machine) where

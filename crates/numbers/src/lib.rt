@@ -86,7 +86,13 @@ fn machine_of(m: HostMachine) -> Machine
 fn flags(m: HostMachine) -> bool
     ensures { λ r. ⌜ r ≡ flags m ⌝ }
 {
-    m.write < 2 && m.latch < 2
+    if 1 < m.write {
+        return false;
+    }
+    if 1 < m.latch {
+        return false;
+    }
+    true
 }
 
 // The machine that a call works on. Where a flag is out of range its mode is so too: the call answers what comes before 16, or 16.
