@@ -3,7 +3,7 @@ use definition::Machine;
 use definition::Ran;
 use definition::Units;
 ghost use mathlib.Core.Path.{_≡_};
-ghost use Rattle.numbers.specs.Numbers.{number, numbersOf, machineOf, flags, taken, given-back, ranOf};
+ghost use Rattle.numbers.specs.Numbers.{number, numbersOf, machineOf, flags, taken, given-back, ranOf, interface};
 
 // In an order that leaves no gap between two fields. A flag that is neither 0 nor 1 is out of range.
 #[repr(C)]
@@ -130,11 +130,8 @@ pub fn ran_of(m: HostMachine, ran: Ran) -> HostRan
     }
 }
 
-// ---- the interface
-ghost use Rattle.numbers.specs.Numbers.{interface};
-
 // The number of the interface in C, the same as ROADPARSNIP_INTERFACE in include/roadparsnip.h.
-// Raise both when a record or a signature of that header changes, and the definition of the number too.
+// Raise both, and `interface` of specs/Numbers.antt, when a record or a signature of that header changes.
 const INTERFACE: u32 = 2;
 
 pub fn interface_number() -> u32
