@@ -103,6 +103,7 @@ RULES = [
     (WRONG, 'range high', 'Machine', 'leZ (u .0) (pos 4095)', 'leZ (u .0) (pos 4096)'),
     (WRONG, 'range high2', 'Machine', 'leZ (u .0) (pos 4095)', 'leZ (u .0) (pos 4094)'),
     (WRONG, 'mode 0 in range', 'Machine', 'isMode k = eqb k none || setsMode k', 'isMode k = eqb k none || eqb k 0 || setsMode k'),
+    (WRONG, 'among the first', 'Choice', 'among n (k ∷ ks) = eqb n k || among n ks', 'among n (k ∷ ks) = eqb n k'),
     (WRONG, 'status 3', 'Machine', 'statuses = 0 ∷ 1 ∷ 2 ∷ refusalNumbers', 'statuses = 0 ∷ 1 ∷ 2 ∷ 3 ∷ refusalNumbers'),
     (WRONG, 'status 28', 'Machine', '∷ 26 ∷ 27 ∷ []', '∷ 26 ∷ 27 ∷ 28 ∷ []'),
     (WRONG, 'status 20', 'Machine', 'refusalNumbers = 21 ∷', 'refusalNumbers = 20 ∷ 21 ∷'),
