@@ -1,6 +1,7 @@
 #!/bin/sh
 # docs/DEFINITION.md and docs/PROMISES.md against the tree: every definition, example, theorem, function and edit that they name is there; DEFINITION.md names
-# every theorem and every function that another crate can call, PROMISES.md every promise and every edit of the machine and the calls.
+# every theorem and every function that another crate can call, PROMISES.md every promise and every edit of the machine and the calls. And the numbers of the
+# definition's tables are where people look for them.
 set -eu
 cd "$(dirname "$0")/.."
 doc=docs/DEFINITION.md
@@ -73,6 +74,23 @@ grep -E '^[a-z]+(-[a-z0-9]+)+$' "$work/named" >"$work/hyphened"
 while read -r theorem; do
     grep -qx -e "$theorem" "$work/theorems" || { echo "$doc names the theorem $theorem, which is not there"; failed=1; }
 done <"$work/hyphened"
+
+# the tables of answers: the header has a constant for each number and for 31 of read-pixel, and no other; each has a theorem and a row of the answers; each
+# refusal has a sentence of picture
+table() { sed -n "s/^$1 = //p" "crates/definition/specs/$2.antt" | tr -cs '0-9' ' '; }
+refusals=$(table refusalNumbers Machine)
+answers="0 1 2 $refusals $(table doorNumbers Calls)"
+# shellcheck disable=SC2086 # one number to a line
+printf '%s\n' $answers 31 | sort -n >"$work/answers"
+sed -n '/^\/\* What a call answers/,/^};/s/^ *ROADPARSNIP_[A-Z_]* = \([0-9]*\).*/\1/p' include/roadparsnip.h | sort -n | diff "$work/answers" - ||
+    { echo "include/roadparsnip.h has other answers than the tables of the definition: < in the tables, > in the header"; failed=1; }
+for n in $answers; do
+    grep -q "^  pub run-$n :" crates/demands/proofs/Demands.antt || { echo "answer $n has no theorem run-$n"; failed=1; }
+    grep -Eq "^\| ([0-9]+, )*$n(, [0-9]+)* \| .*(run|all that answer)" "$doc" || { echo "$doc has no row for answer $n"; failed=1; }
+done
+for n in $refusals; do
+    grep -q "^ *$n => refused(b\"$n: " crates/picture/src/main.rt || { echo "picture has no sentence for $n"; failed=1; }
+done
 
 # links of README
 sed -n 's/.*](\([^)#]*\)).*/\1/p' README.md | while read -r path; do

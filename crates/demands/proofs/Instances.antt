@@ -1,9 +1,10 @@
 -- The conditions that the theorems ask for can be met: a file that is accepted, a run whose doors are all open, words that are ready to be plotted, vectors
--- there and back.
+-- there and back, a pen that leaves what it finds.
 use Prim.Native.Nat.{ℕ}
 use mathlib.Core.List.{List, [], _∷_}
 use mathlib.Core.Path.{refl}
 use mathlib.Core.Logic.{inl, inr}
+use native.Mathlib.Omega.{arith}
 use lib.IntN.{pos, negsuc}
 use Rattle.whole.specs.Parts.{whole}
 use Rattle.definition.specs.Units.{units, moved}
@@ -16,6 +17,7 @@ use Rattle.definition.specs.declared.Machine.{Machine}
 use Rattle.definition.proofs.Opened.{rules}
 use Rattle.definition.proofs.Worked.{file, holding, inMode}
 use Rattle.definition.proofs.Runs.{typed}
+use Rattle.definition.proofs.StoreLaws.{Fitting}
 use Rattle.demands.specs.Conditions.{Accepted, InRange, Open}
 use Rattle.demands.specs.Graphs.{Axis, AlongX, AlongY, modeOf, Ready}
 use Rattle.demands.specs.Strokes.{LitVector, VectorWords, negated}
@@ -29,6 +31,10 @@ typed-accepted = check-0 typed .0 refl
 pub typed-open : Open (plain typed) fresh blank 1000
 unfolding rules
 typed-open = door-0 (plain typed) fresh blank 1000 .0 refl
+
+-- from a digit it leaves a digit, and from 4 it leaves 4
+pub idle-pen : Fitting 4 (λ v. v)
+idle-pen = record { some = omega arith; low = λ v h. h }
 
 -- a fresh machine in a graph mode at (10, 10) with increment 4, before two words
 abbrev graphing : Axis → State
