@@ -44,7 +44,7 @@ abbrev pub agree : (ℕ → Bool) → (ℕ → Bool) → ℕ → Bool
 agree is be zero = true
 agree is be (suc k) = same (is k) (be k) && agree is be k
 
-pub agreed : (is be : ℕ → Bool) (k n : ℕ) → agree is be k ≡ true → n < k → is n ≡ be n
+agreed : (is be : ℕ → Bool) (k n : ℕ) → agree is be k ≡ true → n < k → is n ≡ be n
 agreed is be zero n e h = absurd (omega arith)
 agreed is be (suc k) n e h = let w = both-true {s = same (is k) (be k)} .0 e in go (ℕ-discrete n k) (w .0) (λ l. agreed is be k n (w .1) l)
   where

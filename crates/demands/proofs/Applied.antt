@@ -9,6 +9,7 @@ use Rattle.definition.specs.Units.{units}
 use Rattle.definition.specs.Image.{square}
 use Rattle.definition.specs.Machine.{fresh, withMode}
 use Rattle.definition.specs.Run.{State, begun}
+use Rattle.definition.specs.Calls.{plain}
 use Rattle.definition.specs.declared.Pixel.{Pixel}
 use Rattle.definition.specs.Step.Change.{Stay, Set, Move}
 use Rattle.definition.specs.declared.Order.the-variants.{Increment}
@@ -21,6 +22,7 @@ use Rattle.demands.specs.Exact.{exact}
 use Rattle.demands.specs.Graphs.{AlongX, AlongY, weeks, ofLit}
 use Rattle.demands.specs.Ledger.{Entry, completed, changes, settled}
 use Rattle.demands.specs.Strokes.{Stroke, strokes, ledgerWords, standing}
+use Rattle.demands.specs.With.{withFile}
 
 -- two graph words from unit 10 with increment 4: the first at 10 itself
 pub two-weeks : weeks AlongX square (pos 10) 4 0 (0o040100 ∷ 0o040104 ∷ []) ≡ dot 5 32 ∷ dot 7 34 ∷ []
@@ -88,3 +90,7 @@ highest = record { low = omega whole; high = omega whole }
 -- half way from unit 0 to unit 7 in 2 steps: n times the exact point
 pub half-way : exact (pos 0) (pos 7) 2 1 ≡ pos 7
 half-way = refl
+
+-- another file is lent in the place of the one that was
+pub another-file : withFile (plain (1 ∷ [])) (2 ∷ 3 ∷ []) .file ≡ 2 ∷ 3 ∷ []
+another-file = refl

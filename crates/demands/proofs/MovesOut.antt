@@ -19,7 +19,7 @@ use Rattle.definition.specs.declared.Instruction.{Instruction}
 use Rattle.definition.specs.declared.Instruction.the-variants.{Does, Draws}
 use Rattle.definition.proofs.Plain.{_so_, _and_, _or_, is-lessZ}
 use Rattle.demands.specs.Conditions.{InRange, Fits, On, Off, Pair, word, more, Continues, newX, newY, MovesOut, Beyond}
-use Rattle.demands.proofs.WordAnswers.{data-taken, second-taken}
+use Rattle.demands.proofs.WordAnswers.{data-allowed, second-allowed}
 use Rattle.demands.proofs.Graphs.{clear-15, coordinate-in}
 
 -- ---- one coordinate
@@ -110,19 +110,19 @@ module _ (g : Given) (m : Machine) where
     one-word no-pair = (
       λ c. c .begins .fetched,
       λ z. record {
-        begins = record { fetched = z; taken = data-taken (m .mode) w off some };
+        begins = record { fetched = z; allowed = data-allowed (m .mode) w off some };
         fetched = λ q. absurd (⊎-elim (λ h. let on = h .0 in omega arith) no-pair q);
-        taken = λ q. absurd (no-pair q);
+        allowed = λ q. absurd (no-pair q);
       },
     )
 
     pub two-words : Pair (m .mode) w → Continues g m ↔ ((numberIn (first g m) ≡ 0) × ((numberIn (second g m) ≡ 0) × Off 15 v))
     two-words pair = (
-      λ c. (c .begins .fetched, (c .fetched (inr pair), second-taken v .0 (c .taken pair))),
+      λ c. (c .begins .fetched, (c .fetched (inr pair), second-allowed v .0 (c .allowed pair))),
       λ q. record {
-        begins = record { fetched = q .0; taken = data-taken (m .mode) w off some };
+        begins = record { fetched = q .0; allowed = data-allowed (m .mode) w off some };
         fetched = λ p. q .1 .0;
-        taken = λ p. second-taken v .1 (q .1 .1);
+        allowed = λ p. second-allowed v .1 (q .1 .1);
       },
     )
 

@@ -28,7 +28,7 @@ use Rattle.definition.proofs.Plain.{_so_, _and_, _or_, itself, back, is-equal, 
 use Rattle.demands.specs.Conditions.{InRange, Fits, On, NotBuilt, NoMode, FirstRefused, Pair, TwoWords, SecondRefused, word, more, Begins, Continues, FetchRefused, taken, newX, newY, Stops, stopNumber, LatchIs}
 use Rattle.definition.proofs.StepLaws.{pick-keeps, step-done, step-refused}
 use Rattle.demands.proofs.Kept.{in-range}
-use Rattle.demands.proofs.WordAnswers.{is-off, not-built, no-mode, status-a-taken, is-pair, has-second, is-status-a}
+use Rattle.demands.proofs.WordAnswers.{is-off, not-built, no-mode, status-a-allowed, is-pair, has-second, is-status-a}
 
 wrong : {A : Type 0} → _≡_ {A = Bool} true false → A
 wrong e = absurd (apart e)
@@ -114,14 +114,14 @@ module _ (g : Given) (m : Machine) where
   past-first n k l =
       in-later n fetch1 (word1 ++ (fetch2 ++ (word2 ++ going))) refl k
       so fetch-is (first g m) and (in-later n word1 (fetch2 ++ (word2 ++ going)) refl l so word-passes and itself)
-      so (λ q. (record { fetched = q .0; taken = q .1 .0 }, q .1 .1), λ q. (q .0 .fetched, (q .0 .taken, q .1)))
+      so (λ q. (record { fetched = q .0; allowed = q .1 .0 }, q .1 .1), λ q. (q .0 .fetched, (q .0 .allowed, q .1)))
 
   past-second : (n : ℕ) → names n fetch1 ≡ false → names n word1 ≡ false → names n fetch2 ≡ false → names n word2 ≡ false → (refusal g m ≡ n) ↔ (Continues g m × (firstOf going ≡ n))
   unfolding fetchRefusals secondRefusals
   past-second n k l p q =
       past-first n k l
       so itself and (in-later n fetch2 (word2 ++ going) refl p so more-passes and (in-later n word2 going refl q so pair-passes and itself))
-      so (λ w. (record { begins = w .0; fetched = w .1 .0; taken = w .1 .1 .0 }, w .1 .1 .1), λ w. (w .0 .begins, (w .0 .fetched, (w .0 .taken, w .1))))
+      so (λ w. (record { begins = w .0; fetched = w .1 .0; allowed = w .1 .1 .0 }, w .1 .1 .1), λ w. (w .0 .begins, (w .0 .fetched, (w .0 .allowed, w .1))))
 
   -- a number of fetches; and a number of first words
   by-a-fetch : (n : ℕ) → 0 < n → names n word1 ≡ false → names n (word2 ++ going) ≡ false → (refusal g m ≡ n) ↔ FetchRefused n g m
@@ -130,7 +130,7 @@ module _ (g : Given) (m : Machine) where
       in-either n fetch1 (word1 ++ (fetch2 ++ (word2 ++ going))) refl p
       so fetch-is (first g m)
       or (fetch-is (first g m) and (in-later n word1 (fetch2 ++ (word2 ++ going)) refl k so word-passes and (in-first n fetch2 (word2 ++ going) refl p l so answers-if (hasSecond i) (fetchRefusals (second g m)) n p so has-second (m .mode) w and fetch-is (second g m)))
-      so (λ q. (record { fetched = q .0; taken = q .1 .0 }, q .1 .1), λ q. (q .0 .fetched, (q .0 .taken, q .1))))
+      so (λ q. (record { fetched = q .0; allowed = q .1 .0 }, q .1 .1), λ q. (q .0 .fetched, (q .0 .allowed, q .1))))
 
   by-a-word : (n : ℕ) → 0 < n → names n fetch1 ≡ false → names n (fetch2 ++ (word2 ++ going)) ≡ false → (refusal g m ≡ n) ↔ ((numberIn (first g m) ≡ 0) × (firstOf word1 ≡ n))
   unfolding refusal refusals fetchRefusals firstRefusals
@@ -262,9 +262,9 @@ module _ (g : Given) (m : Machine) (f : Fits m) (running : m .status ≡ 0) wher
       let e = is-status-a (m .mode) (word g m) on c in
       refused-0 g m f .1 (
         record {
-          begins = record { fetched = z; taken = status-a-taken (m .mode) (word g m) on c };
+          begins = record { fetched = z; allowed = status-a-allowed (m .mode) (word g m) on c };
           fetched = λ q. absurd (⊎-elim (λ h. let k = h .1 in omega arith) (λ h. let o = h .0 in omega arith) q);
-          taken = λ q. absurd (let o = q .0 in omega arith);
+          allowed = λ q. absurd (let o = q .0 in omega arith);
         },
         (rw e (f .x), rw e (f .y)),
       )

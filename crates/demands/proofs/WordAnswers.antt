@@ -35,16 +35,16 @@ no-mode mode w = both-true so is-off (w / 2 ^ 15) and is-equal
 
 -- ---- words that no test of a first word refuses
 -- a data word in a mode
-pub data-taken : (mode w : ℕ) → Off 15 w → mode ≤ 6 → FirstRefused mode w → ⊥
-data-taken mode w off some = ⊎-elim (λ q. let on = q .0 in omega arith) (λ q. let e = q .1 in omega arith)
+pub data-allowed : (mode w : ℕ) → Off 15 w → mode ≤ 6 → FirstRefused mode w → ⊥
+data-allowed mode w off some = ⊎-elim (λ q. let on = q .0 in omega arith) (λ q. let e = q .1 in omega arith)
 
 -- a status A
-pub status-a-taken : (mode w : ℕ) → On 15 w → code w ≡ 14 → FirstRefused mode w → ⊥
-status-a-taken mode w on c = ⊎-elim (λ q. ⊎-elim (λ h. omega arith) (λ h. let k = h .1 in omega arith) (q .1)) (λ q. let o = q .0 in omega arith)
+pub status-a-allowed : (mode w : ℕ) → On 15 w → code w ≡ 14 → FirstRefused mode w → ⊥
+status-a-allowed mode w on c = ⊎-elim (λ q. ⊎-elim (λ h. omega arith) (λ h. let k = h .1 in omega arith) (q .1)) (λ q. let o = q .0 in omega arith)
 
 -- ---- a second word that is not refused has bit 15 clear
-pub second-taken : (v : ℕ) → (SecondRefused v → ⊥) ↔ Off 15 v
-second-taken v = (λ h. is-off (v / 2 ^ 15) .0 (not-true .1 (failing .1 (λ e. h (is-equal .0 e)))), λ o q. omega arith)
+pub second-allowed : (v : ℕ) → (SecondRefused v → ⊥) ↔ Off 15 v
+second-allowed v = (λ h. is-off (v / 2 ^ 15) .0 (not-true .1 (failing .1 (λ e. h (is-equal .0 e)))), λ o q. omega arith)
 
 -- ---- which words have a second: by the code, and by the mode
 neither : {A : Type 0} → (A → ⊥) → (_≡_ {A = Bool} false true) ↔ A

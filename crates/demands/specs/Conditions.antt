@@ -118,13 +118,13 @@ more g m = wordIn (second g m)
 -- the first fetch gives a word, which is not refused
 pub record Begins (g : Given) (m : Machine) : Type 0 where
   pub fetched : numberIn (first g m) ≡ 0
-  pub taken : FirstRefused (m .mode) (word g m) → ⊥
+  pub allowed : FirstRefused (m .mode) (word g m) → ⊥
 
 -- and where there is a second word, it is fetched and, in modes 2 and 3, not refused
 pub record Continues (g : Given) (m : Machine) : Type 0 where
   pub begins : Begins g m
   pub fetched : TwoWords (m .mode) (word g m) → numberIn (second g m) ≡ 0
-  pub taken : Pair (m .mode) (word g m) → SecondRefused (more g m) → ⊥
+  pub allowed : Pair (m .mode) (word g m) → SecondRefused (more g m) → ⊥
 
 -- a fetch of this step is refused with this number: the first, or the second where there is one
 abbrev pub FetchRefused : ℕ → Given → Machine → Type 0

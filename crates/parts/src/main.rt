@@ -49,10 +49,16 @@ fn units_case(head: &[u8]) -> bool {
 }
 
 // ---- image
-fn image_case(head: &[u8], image: &mut [u8; 65536]) -> bool {
-    let ink = Ink {
+fn ink_of(head: &[u8]) -> Ink
+    ensures { λ r. ⌜ r .value < 4 ⌝ }
+{
+    Ink {
         value: records::byte_at(head, 2) % 4,
-    };
+    }
+}
+
+fn image_case(head: &[u8], image: &mut [u8; 65536]) -> bool {
+    let ink = ink_of(head);
     let x = (records::word_at(head, 4) % 512) as usize;
     let y = (records::word_at(head, 6) % 512) as usize;
     let p = Pixel {
@@ -195,9 +201,7 @@ fn pixel_of(x: u16, y: u16) -> Pixel
 fn vector_case(head: &[u8], image: &mut [u8; 65536]) -> bool {
     let a = pixel_of(records::word_at(head, 4), records::word_at(head, 6));
     let b = pixel_of(records::word_at(head, 8), records::word_at(head, 10));
-    let ink = Ink {
-        value: records::byte_at(head, 2) % 4,
-    };
+    let ink = ink_of(head);
     write_long(vector::draw(image, a, b, ink))
 }
 
