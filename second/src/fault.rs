@@ -5,7 +5,7 @@ use crate::answer::Answer;
 use crate::file::File;
 use crate::image::IMAGE_BYTES;
 use crate::machine::{fresh, Machine};
-use crate::picture::{pgm, words, BUDGET};
+use crate::picture::{pgm, words};
 use crate::run::{step, Outcome};
 use crate::unit::Unit;
 
@@ -14,18 +14,18 @@ const GRAPH_Y: u8 = 5;
 /// Set in every word that is no data word.
 const CONTROL: u16 = 1 << 15;
 
-/// The screen of a display file as that interpreter drew it.
-pub fn fault(bytes: &[u8]) -> Vec<u8> {
+/// The screen of a display file as that interpreter drew it in so many steps.
+pub fn fault(bytes: &[u8], budget: u64) -> Vec<u8> {
     let mut image = vec![0; IMAGE_BYTES];
     if let Some(words) = words(bytes) {
-        run_late(&words, &mut image);
+        run_late(&words, &mut image, budget);
     }
     pgm(&image)
 }
 
-fn run_late(words: &[u16], image: &mut [u8]) {
+fn run_late(words: &[u16], image: &mut [u8], budget: u64) {
     let mut machine = fresh();
-    for _ in 0..BUDGET {
+    for _ in 0..budget {
         let outcome = step_late(words, machine, image);
         if outcome.answer != Answer::Done {
             return;
@@ -64,7 +64,7 @@ fn is_data(words: &[u16], counter: u16) -> bool {
 mod tests {
     use super::*;
     use crate::cases::bytes_of;
-    use crate::picture::picture;
+    use crate::picture::{picture, USUAL_BUDGET};
 
     /// The pixels that are lit, by column and row, from the lower left.
     fn lit(picture: &[u8]) -> Vec<(usize, usize)> {
@@ -81,19 +81,35 @@ mod tests {
 
     #[test]
     fn graph_y_is_one_increment_too_far_right() {
-        assert_eq!(lit(&picture(&graph(0o124000))), [(8, 64), (5, 32)]);
-        assert_eq!(lit(&fault(&graph(0o124000))), [(11, 64), (8, 32)]);
+        let bytes = graph(0o124000);
+        assert_eq!(lit(&picture(&bytes, USUAL_BUDGET)), [(8, 64), (5, 32)]);
+        assert_eq!(lit(&fault(&bytes, USUAL_BUDGET)), [(11, 64), (8, 32)]);
     }
 
     #[test]
     fn graph_x_is_one_increment_too_high() {
-        assert_eq!(lit(&picture(&graph(0o120000))), [(64, 13), (32, 10)]);
-        assert_eq!(lit(&fault(&graph(0o120000))), [(64, 16), (32, 13)]);
+        let bytes = graph(0o120000);
+        assert_eq!(lit(&picture(&bytes, USUAL_BUDGET)), [(64, 13), (32, 10)]);
+        assert_eq!(lit(&fault(&bytes, USUAL_BUDGET)), [(64, 16), (32, 13)]);
     }
 
     #[test]
     fn without_a_graph_nothing_differs() {
-        let words = [1, 1, 4, 4, 0o113400, 0o040006, 4, 0o172000];
-        assert_eq!(fault(&bytes_of(&words)), picture(&bytes_of(&words)));
+        let bytes = bytes_of(&[1, 1, 4, 4, 0o113400, 0o040006, 4, 0o172000]);
+        for budget in [0, 1, 2, USUAL_BUDGET] {
+            assert_eq!(fault(&bytes, budget), picture(&bytes, budget));
+        }
+    }
+
+    #[test]
+    fn a_budget_cuts_the_graph_where_its_last_step_ends() {
+        // the two points are steps 5 and 6
+        let bytes = graph(0o124000);
+        let points = [(8, 32), (11, 64)];
+        for (budget, count) in [(0, 0), (4, 0), (5, 1), (6, 2), (1_000, 2)] {
+            let mut drawn = lit(&fault(&bytes, budget));
+            drawn.reverse();
+            assert_eq!(drawn, points[..count], "{}", budget);
+        }
     }
 }

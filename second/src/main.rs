@@ -1,5 +1,6 @@
 //! The command: `second plot` reads a display file and prints its line,
-//! `second picture` and `second fault` write its screen as a PGM, right and with the old fault,
+//! `second picture [BUDGET]` and `second fault [BUDGET]` write its screen as a PGM, right and with
+//! the old fault,
 //! `second cases SEED COUNT` prints random files with theirs and the pixels that they store,
 //! `second files SEED COUNT DIR` writes random files and a list of their lines,
 //! `second parts SEED DIR [COUNT]` writes cases for the parts of an implementation, and
@@ -15,15 +16,22 @@ use second::cases::cases;
 use second::fault::fault;
 use second::files::files;
 use second::parts::{parts, USUAL_COUNT};
-use second::picture::picture;
+use second::picture::{picture, USUAL_BUDGET};
 use second::plot::{plot, INPUT_LIMIT};
 use second::replay::{self, replay};
+use second::BUDGET_LIMIT;
+
+/// From the bytes of a file and a budget to a PGM.
+type Screen = fn(&[u8], u64) -> Vec<u8>;
 
 /// What the arguments ask for.
 enum Task {
     Plot,
-    /// A screen, by the function that draws it.
-    Screen(fn(&[u8]) -> Vec<u8>),
+    /// A screen, by the function that draws it, in so many steps.
+    Screen {
+        screen: Screen,
+        budget: u64,
+    },
     Cases {
         seed: u64,
         count: usize,
@@ -50,19 +58,20 @@ fn main() -> ExitCode {
         Some(task) => task,
         None => {
             eprintln!(
-                "Call it as `second plot`, `second picture` or `second fault`, \
-                 with a display file on standard input, \
+                "Call it as `second plot`, `second picture [BUDGET]` or `second fault [BUDGET]`, \
+                 with a display file on standard input and a budget of at most {} steps, \
                  as `second cases SEED COUNT`, with two whole numbers, \
                  as `second files SEED COUNT DIR`, with a folder to write to, \
                  or as `second parts SEED DIR [COUNT]` or `second replay SEED DIR [COUNT]`, \
-                 with such a folder too."
+                 with such a folder too.",
+                BUDGET_LIMIT
             );
             return ExitCode::from(2);
         }
     };
     let done = match task {
         Task::Plot => plot_standard_input(),
-        Task::Screen(screen) => draw_standard_input(screen),
+        Task::Screen { screen, budget } => draw_standard_input(screen, budget),
         Task::Cases { seed, count } => print_cases(seed, count),
         Task::Files {
             seed,
@@ -94,8 +103,22 @@ fn task() -> Option<Task> {
     let arguments: Option<Vec<_>> = arguments.iter().map(|word| word.to_str()).collect();
     match arguments?.as_slice() {
         ["plot"] => Some(Task::Plot),
-        ["picture"] => Some(Task::Screen(picture)),
-        ["fault"] => Some(Task::Screen(fault)),
+        ["picture"] => Some(Task::Screen {
+            screen: picture,
+            budget: USUAL_BUDGET,
+        }),
+        ["picture", steps] => Some(Task::Screen {
+            screen: picture,
+            budget: budget(steps)?,
+        }),
+        ["fault"] => Some(Task::Screen {
+            screen: fault,
+            budget: USUAL_BUDGET,
+        }),
+        ["fault", steps] => Some(Task::Screen {
+            screen: fault,
+            budget: budget(steps)?,
+        }),
         ["cases", seed, count] => Some(Task::Cases {
             seed: seed.parse().ok()?,
             count: count.parse().ok()?,
@@ -129,12 +152,22 @@ fn task() -> Option<Task> {
     }
 }
 
+/// The largest is that of a run.
+fn budget(steps: &str) -> Option<u64> {
+    let steps = steps.parse().ok()?;
+    if steps <= BUDGET_LIMIT {
+        Some(steps)
+    } else {
+        None
+    }
+}
+
 fn plot_standard_input() -> io::Result<()> {
     writeln!(io::stdout(), "{}", plot(&standard_input()?))
 }
 
-fn draw_standard_input(screen: fn(&[u8]) -> Vec<u8>) -> io::Result<()> {
-    io::stdout().write_all(&screen(&standard_input()?))
+fn draw_standard_input(screen: Screen, budget: u64) -> io::Result<()> {
+    io::stdout().write_all(&screen(&standard_input()?, budget))
 }
 
 fn standard_input() -> io::Result<Vec<u8>> {

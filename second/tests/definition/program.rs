@@ -16,6 +16,14 @@ fn call(arguments: &[&str], input: &[u8]) -> Output {
     child.wait_with_output().expect("the program ends")
 }
 
+/// The PGM of a command that draws.
+fn screen(arguments: &[&str], input: &[u8]) -> Vec<u8> {
+    let output = call(arguments, input);
+    assert!(output.status.success());
+    assert!(output.stderr.is_empty());
+    output.stdout
+}
+
 fn printed(input: &[u8]) -> String {
     let output = call(&["plot"], input);
     assert!(output.status.success());
@@ -47,9 +55,65 @@ fn refused_input_is_a_number_and_six_zeros() {
     assert_eq!(printed(&[0; 200_000]), "19 0 0 0 0 0 0\n");
 }
 
+/// Six steps over and over: a mode, two points of value 3, a mode, a vector of value 0 back across
+/// them, and a jump.
+fn endless() -> Vec<u8> {
+    let words: [u16; 11] = [
+        1, 1, 4, 7, 0o133400, 0o040400, 0o040400, 0o106000, 0o061000, 0o160000, 0,
+    ];
+    words.iter().flat_map(|word| word.to_le_bytes()).collect()
+}
+
+#[test]
+fn a_screen_without_a_budget_is_that_of_32768_steps() {
+    let bytes = endless();
+    for command in ["picture", "fault"] {
+        let usual = screen(&[command], &bytes);
+        assert!(screen(&[command, "32768"], &bytes) == usual);
+        assert!(screen(&[command, "32767"], &bytes) != usual);
+        assert!(screen(&[command, "32769"], &bytes) != usual);
+    }
+}
+
+#[test]
+fn a_budget_may_be_0_and_a_million() {
+    let mut blank = b"P5\n512 512\n3\n".to_vec();
+    let row = blank.len() + 511 * 512;
+    blank.resize(row + 512, 0);
+    // A million steps end with the fourth of the six.
+    let mut points = blank.clone();
+    points[row + 1] = 3;
+    points[row + 2] = 3;
+    for command in ["picture", "fault"] {
+        assert!(screen(&[command, "0"], &endless()) == blank);
+        assert!(screen(&[command, "1000000"], &endless()) == points);
+        for refused in [&[1][..], &[3, 0, 1, 0][..]] {
+            assert!(screen(&[command, "0"], refused) == blank);
+            assert!(screen(&[command, "1000000"], refused) == blank);
+        }
+    }
+}
+
 #[test]
 fn other_arguments_get_a_sentence_and_status_2() {
-    let wrong: [&[&str]; 5] = [&[], &["Plot"], &["plot", "file"], &["--help"], &[""]];
+    let wrong: [&[&str]; 16] = [
+        &[],
+        &["Plot"],
+        &["plot", "file"],
+        &["--help"],
+        &[""],
+        &["plot", "1000"],
+        &["picture", "1000001"],
+        &["picture", "18446744073709551616"],
+        &["picture", "-1"],
+        &["picture", "1.5"],
+        &["picture", "1,000"],
+        &["picture", "many"],
+        &["picture", ""],
+        &["picture", "1000", "1000"],
+        &["fault", "1000001"],
+        &["fault", "many"],
+    ];
     for arguments in wrong {
         let output = call(arguments, &[1, 0]);
         assert_eq!(output.status.code(), Some(2));
