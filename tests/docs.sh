@@ -54,7 +54,7 @@ while read -r crate function; do
     grep -Eq "^(pub )?(extern \"C\" )?fn $function\(" "crates/$crate/src/lib.rt" 2>/dev/null ||
         { echo "$doc names the function $crate::$function, which is not there"; failed=1; }
 done <"$work/functions"
-for crate in units image file words vector outcome items orders machine run doors still display numbers host line text screen; do
+for crate in units image file words vector outcome items orders machine run doors still display numbers host line text screen input; do
     sed -nE "s/^pub (extern \"C\" )?fn ([a-z_0-9]+)\(.*/$crate::\2/p" "crates/$crate/src/lib.rt"
 done >"$work/public"
 while read -r function; do
@@ -76,7 +76,7 @@ while read -r theorem; do
 done <"$work/hyphened"
 
 # the tables of answers: the header has a constant for each number and for 31 of read-pixel, and no other; each has a theorem and a row of the answers; each
-# refusal has a sentence of picture
+# refusal has its reason in a sentence
 table() { sed -n "s/^$1 = //p" "crates/definition/specs/$2.antt" | tr -cs '0-9' ' '; }
 refusals=$(table refusalNumbers Machine)
 answers="0 1 2 $refusals $(table doorNumbers Calls)"
@@ -89,7 +89,7 @@ for n in $answers; do
     grep -Eq "^\| ([0-9]+, )*$n(, [0-9]+)* \| .*(run|all that answer)" "$doc" || { echo "$doc has no row for answer $n"; failed=1; }
 done
 for n in $refusals; do
-    grep -q "^ *$n => refused(b\"$n: " crates/picture/src/main.rt || { echo "picture has no sentence for $n"; failed=1; }
+    grep -q "^ *$n) echo '" tools/reasons.sh || { echo "tools/reasons.sh has no reason for $n"; failed=1; }
 done
 
 # links of README

@@ -1,60 +1,91 @@
-// Reads a display file from standard input, and writes its screen as a binary PGM. What there is to say of it goes to standard error.
-use libc::STDERR_FILENO;
-use libc::STDIN_FILENO;
+// picture BUDGET [FILE OUT]..: draws each file by a run with that budget, and writes its screen to the new file OUT as a binary PGM. A FILE of `-` is
+// standard input. Of each pair it writes a line: the answer; `unread`, and then it makes no OUT; or `unwritten`, where OUT could not be made, written
+// whole or closed.
 use libc::STDOUT_FILENO;
 use screen::PICTURE;
 
-fn say(text: &[u8]) {
-    io::write_all(STDERR_FILENO, text);
+// ---- the budget
+// The least that a run refuses, by 17. A larger budget, and what is no number, count as this one.
+const REFUSED: u32 = 1000001;
+
+// A budget with one figure more.
+fn with_figure(budget: u32, figure: u8) -> u32 {
+    if figure < b'0' {
+        return REFUSED;
+    }
+    if b'9' < figure {
+        return REFUSED;
+    }
+    let next = 10 * (budget as u64) + (figure - b'0') as u64;
+    if 1000000 < next {
+        return REFUSED;
+    }
+    next as u32
 }
 
-fn turned_away(why: &[u8]) {
-    say(b"picture: refused, ");
-    say(why);
-    say(b"; nothing was drawn.\n");
+fn budget_of(figures: &[u8]) -> u32 {
+    if figures.len() == 0 {
+        return REFUSED;
+    }
+    let mut budget = 0;
+    let mut i = 0;
+    while i < figures.len() {
+        budget = with_figure(budget, figures[i]);
+        i += 1;
+    }
+    budget
 }
 
-fn refused(why: &[u8]) {
-    say(b"picture: refused, ");
-    say(why);
-    say(b"; the picture is what was drawn before.\n");
+// ---- one picture, and all
+fn say(line: &[u8]) -> bool {
+    io::write_all(STDOUT_FILENO, line)
 }
 
-// Nothing of a file that stopped, by 1 or 2.
-fn explain(answer: u8) {
-    match answer {
-        0 => say(b"picture: still running after 32,768 steps; the picture is what they drew.\n"),
-        12 => turned_away(b"12: the file is shorter than two words, or than its header"),
-        13 => turned_away(b"13: the tag, which is the first word, is not 1"),
-        14 => turned_away(b"14: the number of segments is not 1 to 8"),
-        15 => turned_away(
-            b"15: a segment starts in the header, has more than 4,096 words or ends past the file",
-        ),
-        19 => turned_away(
-            b"19: the input ends in the middle of a word, or is longer than 65,536 bytes",
-        ),
-        21 => refused(b"21: a word was to come from an odd address"),
-        22 => refused(b"22: a word was to come from a segment that the file does not have"),
-        23 => refused(b"23: a word was to come from past the end of its segment"),
-        24 => refused(b"24: a word has a code that is not built"),
-        25 => refused(b"25: a data word came before any mode was set"),
-        26 => refused(b"26: the second word of a long vector or an absolute point has bit 15 set"),
-        27 => refused(b"27: X or Y would go below -4,096 or above 4,095"),
-        _ => {}
+fn say_answer(answer: u8) -> bool {
+    io::print_decimal(STDOUT_FILENO, answer as u64) && say(b"\n")
+}
+
+// Writes a picture to the new file that an argument names, and answers whether all of it is there.
+fn save(argument: usize, picture: &[u8; PICTURE]) -> bool {
+    let mut name = io::buffer();
+    let length = os::arg(argument, &mut name);
+    let fd = os::create(&name[..length]);
+    if fd < 0 {
+        return false;
+    }
+    let is_written = io::write_all(fd, picture);
+    let is_closed = libc::close(fd) == 0;
+    is_written && is_closed
+}
+
+// Answers whether the line was written.
+fn draw(file: usize, out: usize, budget: u32) -> bool {
+    let mut bytes = [0u8; input::ROOM];
+    let mut image = [0u8; 65536];
+    let mut picture = [0u8; PICTURE];
+    let taken = input::read(file, &mut bytes);
+    if !taken.is_read {
+        return say(b"unread\n");
+    }
+    let length = taken.length;
+    let answer = screen::draw(&bytes[..length], &mut image, budget);
+    screen::picture_of(&image, &mut picture);
+    if !save(out, &picture) {
+        return say(b"unwritten\n");
+    }
+    say_answer(answer)
+}
+
+// The first pair is arguments 2 and 3. Stops where a line was not written.
+fn draw_all(count: usize, budget: u32) {
+    let mut pair = 1;
+    while pair < count / 2 && draw(2 * pair, 2 * pair + 1, budget) {
+        pair += 1;
     }
 }
 
-fn write(picture: &[u8; PICTURE]) {
-    io::write_all(STDOUT_FILENO, picture);
-}
-
 fn main() {
-    // one byte more than an input may have, so that a longer one is seen to be so
-    let mut bytes = [0u8; 65537];
-    let mut image = [0u8; 65536];
-    let mut picture = [0u8; PICTURE];
-    let read = io::read_full(STDIN_FILENO, &mut bytes);
-    explain(screen::draw(&bytes[..read], &mut image));
-    screen::picture_of(&image, &mut picture);
-    write(&picture);
+    let mut figures = io::buffer();
+    let length = os::arg(1, &mut figures);
+    draw_all(os::arg_count(), budget_of(&figures[..length]));
 }

@@ -9,15 +9,11 @@ use Rattle.definition.specs.Calls.{plain, runCall}
 use Rattle.definition.specs.Plot.{wordsIn, inputDoors}
 
 -- ---- the screen
--- A run that never jumps back takes at most 8 times 4,096 words: a file that is drawn once is drawn whole, and one that jumps back is cut here.
-abbrev pub screenBudget : ℕ
-screenBudget = 32768
-
--- 19 first, with nothing drawn; else what the run of a fresh machine on a cleared image answers and leaves
-unfoldable pub drawing : List ℕ → Left ℕ
-drawing bytes =
+-- 19 first, with nothing drawn; else what the run of a fresh machine on a cleared image, with that budget, answers and leaves
+unfoldable pub drawing : List ℕ → ℕ → Left ℕ
+drawing bytes budget =
     let n = firstOf (inputDoors bytes) in
-    let ran = runCall (plain (wordsIn bytes)) fresh blank screenBudget in
+    let ran = runCall (plain (wordsIn bytes)) fresh blank budget in
     pick (eqb n 0) (left (ran .result .answer) (ran .image)) (left n blank)
 
 -- ---- the picture

@@ -6,8 +6,6 @@ ghost use lib.ListN.{length, take};
 ghost use Rattle.definition.specs.Image.{imageBytes, left};
 ghost use Rattle.screen.specs.Screen.{drawing, row, rows, pgm};
 
-const BUDGET: u32 = 32768;
-
 // The bytes of a picture, of its header and of one of its rows.
 pub const PICTURE: usize = 262157;
 
@@ -15,9 +13,9 @@ const HEADER: usize = 13;
 
 const ROW: usize = 512;
 
-// Clears the image, draws the file into it, and answers as `plot` does.
-pub fn draw(bytes: &[u8], image: &mut [u8; 65536]) -> u8
-    ensures { λ r. ⌜ left r (now (image .exit)) ≡ drawing (now (bytes .entry)) ⌝ }
+// Clears the image, lets a fresh machine draw the file into it with that budget, and answers 19 or as the run does.
+pub fn draw(bytes: &[u8], image: &mut [u8; 65536], budget: u32) -> u8
+    ensures { λ r. ⌜ left r (now (image .exit)) ≡ drawing (now (bytes .entry)) budget ⌝ }
 {
     image::clear(image);
     if bytes.len() % 2 != 0 {
@@ -28,7 +26,7 @@ pub fn draw(bytes: &[u8], image: &mut [u8; 65536]) -> u8
     }
     let mut words = [0u16; 32768];
     let n = line::words_of(bytes, &mut words);
-    let ran = display::run(&words[..n], display::fresh(), image, BUDGET);
+    let ran = display::run(&words[..n], display::fresh(), image, budget);
     ran.answer
 }
 
