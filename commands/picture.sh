@@ -205,6 +205,10 @@ while :; do
         ending=pgm
         shift
         ;;
+    --help | -h)
+        show_page picture
+        exit
+        ;;
     --)
         shift
         break

@@ -58,6 +58,9 @@ done
 is 0 "$first" '' ./roadparsnip help
 is 0 "$first" '' ./roadparsnip --help
 is 0 "$first" '' ./roadparsnip help help
+is 0 "$first" '' ./roadparsnip help --help
+is 0 "$first" '' ./roadparsnip help --version
+is 0 "$(cat commands/picture.txt)" '' ./roadparsnip picture --budget 5 --help
 printf '%s\n' "$first" | grep -q @ && fail 'the first screen has a mark that was not replaced'
 
 # ---- the version, the interface of the header, and the toolchain
@@ -132,7 +135,7 @@ if script -qec true /dev/null </dev/null >/dev/null 2>&1; then
     touch "$tree/crates.txt" "$tree/slow"
     PATH="$work/rt:$work/few:$PATH" script -qec "$tree/roadparsnip plot - </dev/null" /dev/null </dev/null | tr '\r' '\n' | sed -e 's/ *$//' -e '/^$/d' >"$work/said"
     grep -qx 'plot: proving crate 1 of 2, line ([0-9]* s)' "$work/said" && grep -qx 'plot: proving crate 2 of 2, plot ([0-9]* s)' "$work/said" &&
-        grep -qx 'plot: proved 2 crates and built it in [0-9]* s' "$work/said" && [ "$(tail -n 1 "$work/said")" = '1 4' ] || fail "on a terminal the first use says '$(cat "$work/said")'"
+        grep -qx 'plot: all 2 crates are proved, and it is built ([0-9]* s)' "$work/said" && [ "$(tail -n 1 "$work/said")" = '1 4' ] || fail "on a terminal the first use says '$(cat "$work/said")'"
     rm "$tree/slow"
 else
     echo 'door: no terminal can be made here, so the line that moves was not seen'

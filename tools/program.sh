@@ -1,6 +1,9 @@
 # What the commands, ./build and ./install share. A script sets `top`, the folder that has tools/, and `name`, which its sentences begin with, and then
 # reads this file.
 
+# Where CDPATH is set, cd may go to a folder of the same name elsewhere.
+unset CDPATH
+
 # What standard input is. Where it is closed, the first file that a program opens would take its place.
 input=open
 [ ! -d /dev/stdin ] || input=folder
@@ -98,7 +101,7 @@ prove() {
         wait "$moving" 2>/dev/null || :
         trap - EXIT
         printf '\r%-70s\r' '' >&2
-        [ -n "$failed" ] || say "proved $(sources "$crate" | wc -l) crates and built it in $(seconds $(($(date +%s) - start)))"
+        [ -n "$failed" ] || say "all $(sources "$crate" | wc -l) crates are proved, and it is built ($(seconds $(($(date +%s) - start))))"
     fi
     [ -z "$failed" ] || { tail -n 5 "target/$crate.log" >&2; fail "it was not built, as it is not proved; $top/target/$crate.log has what rt said."; }
 }
