@@ -109,6 +109,6 @@ chmod +x "$work/few/rt"
 says 'the library is built, but its place could not be written.' sh -c 'PATH=$0/few:$PATH; ./build "$0/lib" >/dev/full' "$work"
 # a folder of the same name elsewhere is not taken for the one that is meant
 mkdir -p "$work/elsewhere/lib"
-(build=$PWD/build && cd "$work" && PATH="$work/few:$PATH" CDPATH="$work/elsewhere" "$build" lib) >"$work/said" 2>"$work/error"
-[ "$(head -n 1 "$work/said")" = "$work/lib/roadparsnip.h" ] && [ -z "$(ls "$work/elsewhere/lib")" ] || fail "with CDPATH set ./build writes to $(cat "$work/said")"
+(build=$PWD/build && cd "$work" && PATH="$work/few:$PATH" CDPATH="$work/elsewhere" "$build" lib) >"$work/said" 2>"$work/error" || fail "with CDPATH set ./build says '$(cat "$work/error")'"
+[ "$(head -n 1 "$work/said")" = "$work/lib/roadparsnip.h" ] || fail "with CDPATH set ./build writes to '$(cat "$work/said")'"
 echo 'host: the programs in C draw their charts, and are refused as they should be'
