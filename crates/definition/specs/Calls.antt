@@ -8,6 +8,7 @@ use lib.IntN.{natAbs}
 use Rattle.definition.specs.Choice.{pick, Test, _when_, firstOf, joined}
 use Rattle.definition.specs.Image.{Shape, imageBytes, blank, inField, digitAt, Left, left}
 use Rattle.definition.specs.File.{fileDoors, fetch}
+use Rattle.definition.specs.BuiltIn.{builtIn}
 use Rattle.definition.specs.Characters.{setBytes, chosen}
 use Rattle.definition.specs.Machine.{startedAt, machineDoors}
 use Rattle.definition.specs.Step.{Given}
@@ -45,7 +46,7 @@ abbrev pub plain : List ℕ → Lent
 plain f = lending f []
 
 abbrev pub given : Lent → Given
-given l = record { memory = fetch (l .file); set = chosen (l .set) }
+given l = record { memory = fetch (l .file); set = chosen (l .set) builtIn }
 
 unfoldable pub checkCall : List ℕ → ℕ
 checkCall f = firstOf (fileDoors f)

@@ -7,16 +7,15 @@ use lib.Dec.{eqb}
 use lib.IntN.{ℤ, pos, _+ℤ_}
 use Rattle.definition.specs.Choice.{pick}
 use Rattle.definition.specs.Units.{pixel}
-use Rattle.definition.specs.BuiltIn.{builtIn}
 use Rattle.definition.specs.declared.Pixel.{Pixel}
 
 -- eight bytes for each of the codes 32 to 126
 abbrev pub setBytes : ℕ
 setBytes = 760
 
--- of what is lent: the set itself, and where it is empty the built-in one
-unfoldable pub chosen : List ℕ → List ℕ
-chosen lent = pick (eqb (length lent) 0) builtIn lent
+-- the set that serves: the lent one, or where that is empty the built-in one
+unfoldable pub chosen : List ℕ → List ℕ → List ℕ
+chosen lent built = pick (eqb (length lent) 0) built lent
 
 unfoldable pub cellOf : List ℕ → ℕ → List ℕ
 cellOf set c = take 8 (drop (8 * (c - 32)) set)
