@@ -89,7 +89,7 @@ row-few : (x y : ℤ) (row : ℕ) → length (rowPixels x y row) ≤ 8
 unfolding rowPixels
 row-few x y row = gathered-few (bitPixels x y row) 1 (λ k. bit-few (isSet row k) _) 8
 
-pub cell-few : (corner : Pixel) (cell : List ℕ) → length (cellPixels corner cell) ≤ 64
+cell-few : (corner : Pixel) (cell : List ℕ) → length (cellPixels corner cell) ≤ 64
 unfolding cellPixels
 cell-few corner cell = gathered-few (rowAt corner cell) 8 (λ r. row-few _ _ _) 8
 
@@ -100,6 +100,9 @@ module _ (s : Shape) (pen : Pen) (im : List ℕ) {r : ℕ} {im′ : List ℕ} wh
 
   pub row-at-most : (x y : ℤ) (row : ℕ) → left r im′ ≡ drawn s pen im (rowPixels x y row) → r ≤ 8
   row-at-most x y row d = omega (arith, drawn-few s pen im (rowPixels x y row) d, row-few x y row)
+
+  pub cell-at-most : (corner : Pixel) (cell : List ℕ) → left r im′ ≡ drawn s pen im (cellPixels corner cell) → r ≤ 64
+  cell-at-most corner cell d = omega (arith, drawn-few s pen im (cellPixels corner cell) d, cell-few corner cell)
 
 -- ---- a row with no bit set
 pub row-empty : (s : Shape) (pen : Pen) (im : List ℕ) (x y : ℤ) (row : ℕ) → row ≡ 0 → left 0 im ≡ drawn s pen im (rowPixels x y row)
