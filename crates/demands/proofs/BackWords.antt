@@ -82,8 +82,8 @@ module _ (g : Given) (m : Machine) (dx dy : Units) where
 
     pub words-complete : VectorWords g m dx dy → refusal g m ≡ 0
     words-complete = ⊎-elim
-        (λ r. ends-in _ (short-is r) refl (one-word g m (r .data-word) (let e = r .mode in omega arith) (not-paired g m (λ q. let e = r .mode in omega arith) (λ q. let e = r .mode in omega arith)) .1 (r .fetched)))
-        (λ r. ends-in _ (long-is r) (ap (λ (d : Units). way (Move dx) (Move d)) (r .upward)) (two-words g m (r .data-word) (let e = r .mode in omega arith) (r .data-word, inl (r .mode)) .1 (r .fetched, (r .fetched-too, r .data-too))))
+        (λ r. ends-in _ (short-is r) refl (one-word g m (r .data-word) (let e = r .mode in omega arith) (let e = r .mode in omega arith) (not-paired g m (λ q. let e = r .mode in omega arith) (λ q. let e = r .mode in omega arith)) .1 (r .fetched)))
+        (λ r. ends-in _ (long-is r) (ap (λ (d : Units). way (Move dx) (Move d)) (r .upward)) (two-words g m (r .data-word) (let e = r .mode in omega arith) (let e = r .mode in omega arith) (r .data-word, inl (r .mode)) .1 (r .fetched, (r .fetched-too, r .data-too))))
 
 -- ---- there and back
 module _ (g : Given) (m : Machine) (dx dy : Units) (fits : Fits m) (x-in : InRange (moved (m .x) dx)) (y-in : InRange (moved (m .y) dy))

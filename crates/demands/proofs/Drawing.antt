@@ -17,7 +17,7 @@ use Rattle.definition.specs.Calls.{Lent, given, answered, runCall, readCall}
 use Rattle.definition.specs.declared.Units.{Units}
 use Rattle.definition.specs.declared.Pixel.{Pixel}
 use Rattle.definition.specs.declared.Machine.{Machine}
-use Rattle.demands.specs.Conditions.{Among, InRange, Fits, Open, During, InField, On, Off, word}
+use Rattle.demands.specs.Conditions.{Among, InRange, Fits, Open, During, InField, On, Off, LitWord, BlankWord, word}
 use Rattle.demands.specs.Ledger.{completed}
 use Rattle.demands.specs.Graphs.{Axis, AllLit, stepped, weeks, ofLit, shown, weekAt, Ready, plotted}
 use Rattle.demands.specs.Strokes.{Stroke, strokesOf, strokes, strokePixels, drawn, ledgerWords, Lights, lightsBetween, Plots, vectorBetween, longerBetween, OnVector, LitVector, VectorWords, negated, Turned, seen, standing, Unstruck}
@@ -65,11 +65,11 @@ strokes-first = origins.strokes-first
 
 -- a completed step of a lit data word with write on stores those pixels in the field that its mode lights between its two positions, in their order; any other
 -- step stores none
-pub lit-stores : (g : Given) (m : Machine) → refusal g m ≡ 0 → m .write ≡ true → Off 15 (word g m) → On 14 (word g m)
-    → step g m .pixels ≡ inside (shapeOf m) (lightsBetween (m .mode) m (step g m .machine))
+pub lit-stores : (g : Given) (m : Machine) → refusal g m ≡ 0 → m .write ≡ true → Off 15 (word g m) → LitWord (m .mode) (word g m)
+    → step g m .pixels ≡ inside (shapeOf m) (lightsBetween g (m .mode) (word g m) m (step g m .machine))
 lit-stores = places.lit-stores
 
-pub else-stores-none : (g : Given) (m : Machine) → (m .write ≡ false) ⊎ (On 15 (word g m) ⊎ Off 14 (word g m)) → step g m .pixels ≡ []
+pub else-stores-none : (g : Given) (m : Machine) → (m .write ≡ false) ⊎ (On 15 (word g m) ⊎ BlankWord (m .mode) (word g m)) → step g m .pixels ≡ []
 else-stores-none = places.else-stores-none
 
 -- ==== Where a stroke comes from
@@ -78,8 +78,8 @@ else-stores-none = places.else-stores-none
 pub stroke-origin : (g : Given) (b : ℕ) (s : State) (t : Stroke) → Among t (strokes g b s) ↔ During g b s (λ m. (t .machine ≡ m) × Lights g m (t .pixel))
 stroke-origin = origins.stroke-origin
 
--- the same in words and positions alone: the word there has bit 15 clear and bit 14 set, write is on, and the pixel is in the field and one of those that
--- its mode lights between the position before the step and the one after it
+-- the same in words and positions alone: the word there has bit 15 clear, and bit 14 set or its mode is 0; write is on; and the pixel is in the field and one
+-- of those that its mode lights between the position before the step and the one after it
 pub stroke-in-words : (g : Given) (b : ℕ) (s : State) (t : Stroke) → Among t (strokes g b s) ↔ During g b s (λ m. (t .machine ≡ m) × Plots g m (t .pixel))
 stroke-in-words = places.stroke-in-words
 
