@@ -6,14 +6,13 @@ use mathlib.Core.Path.{_≡_}
 use mathlib.Core.Logic.{_⊎_}
 use lib.Dec.{eqb}
 use lib.ListN.{getD}
-use lib.IntN.{ℤ, pos, negℤ, natAbs, _+ℤ_, _-ℤ_, _*ℤ_}
+use lib.IntN.{ℤ, pos, negℤ, natAbs, _-ℤ_, _*ℤ_}
 use lib.Signed.{leZ}
 use Rattle.definition.specs.Choice.{pick}
 use Rattle.definition.specs.Units.{units}
 use Rattle.definition.specs.Image.{Shape, pixelAt, digitAt, store}
 use Rattle.definition.specs.File.{numberIn}
-use Rattle.definition.specs.Words.{shortX, shortY, long, firstCode, secondCode, wordsOf}
-use Rattle.definition.specs.Characters.{cellOf, cellPixels}
+use Rattle.definition.specs.Words.{shortX, shortY, long, wordsOf}
 use Rattle.definition.specs.Vector.{longer, vector}
 use Rattle.definition.specs.Machine.{shapeOf, penOf}
 use Rattle.definition.specs.Step.{itemPixels, storedOf, done, Given, first, second, instruction, refusal, step}
@@ -25,6 +24,7 @@ use Rattle.definition.specs.declared.Item.{Item}
 use Rattle.definition.specs.declared.Instruction.the-variants.{Draws}
 use Rattle.demands.specs.Conditions.{Among, InField, On, Off, LitWord, word, more}
 use Rattle.demands.specs.Exact.{exact}
+use Rattle.demands.specs.Cells.{characters}
 use Rattle.demands.specs.Ledger.{Entry, completed}
 
 -- ---- strokes
@@ -79,12 +79,6 @@ vectorBetween m m′ = vector (pixelAt (shapeOf m) (m .x) (m .y)) (pixelAt (shap
 
 abbrev pub longerBetween : Machine → Machine → ℕ
 longerBetween m m′ = longer (pixelAt (shapeOf m) (m .x) (m .y)) (pixelAt (shapeOf m) (m′ .x) (m′ .y))
-
--- the characters of a word: the cell of the first code by the pixel of the position, and the cell of the second by that of 16 units further right
-abbrev pub characters : List ℕ → Machine → ℕ → List Pixel
-characters set m w =
-    cellPixels (pixelAt (shapeOf m) (m .x) (m .y)) (cellOf set (firstCode w))
-    ++ cellPixels (pixelAt (shapeOf m) (units (m .x .0 +ℤ pos 16)) (m .y)) (cellOf set (secondCode w))
 
 -- what a lit data word w lights, by its mode and the positions before and after its step: in mode 0 its characters from the position before, in the set that
 -- is given; in modes 1 and 2 the vector between the positions, in modes 4 and 5 the pixel whose stepped coordinate is still the one before, in modes 3 and 6
