@@ -6,21 +6,32 @@ use mathlib.Core.Path.{_≡_, refl, sym, ap, _∙_}
 use native.Mathlib.Omega.{arith}
 use lib.ListN.{length, getD, take, drop, replicate}
 use lib.Seq.{drop-drop}
-use borrow.Author.Tests.{ne-eqb}
+use lib.Dec.{ltb}
+use borrow.Author.Tests.{ltb-true}
 use Rattle.definition.specs.Choice.{among}
 use Rattle.definition.specs.BuiltIn.{builtIn}
 use Rattle.definition.specs.Characters.{setBytes, chosen, cellOf}
 use Rattle.definition.specs.Calls.{setDoors, lending, given, runDoors, runDoor, runCall}
 use Rattle.definition.specs.declared.Machine.{Machine}
 use Rattle.definition.proofs.Exactly.{apart}
+use Rattle.definition.proofs.Tables.{all-of, one-of}
 use Rattle.definition.proofs.Plain.{not-true, both-true}
-use Rattle.demands.specs.Conditions.{HasCell}
 use Rattle.demands.proofs.Kept.{is-among}
 use Rattle.demands.proofs.VectorOrigins.{at-in}
 
 pub built-in-length : length builtIn ≡ setBytes
 unfolding builtIn
 built-in-length = refl
+
+-- each of them is a byte
+all-bytes : all-of (λ n. ltb n 256) builtIn ≡ true
+unfolding builtIn
+all-bytes = refl
+
+pub built-in-bytes : (i : ℕ) → i < setBytes → getD builtIn i 0 < 256
+built-in-bytes i h =
+    let l = built-in-length in
+    ltb-true _ _ (one-of (λ n. ltb n 256) builtIn (getD builtIn i 0) all-bytes (is-among (getD builtIn i 0) builtIn .1 (at-in 0 builtIn i (omega arith))))
 
 -- ---- cells as numbers
 -- a cell as one number; and the cells of a set, one after the other
@@ -61,9 +72,9 @@ all-differ : distinct (worths 95 builtIn) ≡ true
 unfolding builtIn
 all-differ = refl
 
-pub cells-differ : (a b : ℕ) → 32 ≤ a → a < b → b ≤ 126 → cellOf builtIn a ≡ cellOf builtIn b → ⊥
+pub all-cells-differ : (a b : ℕ) → 32 ≤ a → a < b → b ≤ 126 → cellOf builtIn a ≡ cellOf builtIn b → ⊥
 unfolding cellOf
-cells-differ a b low h high e =
+all-cells-differ a b low h high e =
     let l = worths-length 95 builtIn in
     differing (worths 95 builtIn) all-differ (a - 32) (b - 32) (omega arith) (omega arith)
     (worth-at 95 (a - 32) builtIn (omega arith) ∙ ap worth e ∙ sym (worth-at 95 (b - 32) builtIn (omega arith)))
@@ -74,10 +85,10 @@ unfolding cellOf builtIn
 space-blank = refl
 
 pub no-cell-blank : (c : ℕ) → 33 ≤ c → c ≤ 126 → cellOf builtIn c ≡ replicate 8 0 → ⊥
-no-cell-blank c low high e = cells-differ 32 c (omega arith) (omega arith) high (space-blank ∙ sym e)
+no-cell-blank c low high e = all-cells-differ 32 c (omega arith) (omega arith) high (space-blank ∙ sym e)
 
-pub digits-differ : (a b : ℕ) → a < b → b ≤ 9 → cellOf builtIn (48 + a) ≡ cellOf builtIn (48 + b) → ⊥
-digits-differ a b h l e = cells-differ (48 + a) (48 + b) (omega arith) (omega arith) (omega arith) e
+pub digits-differ : (a b : ℕ) → 48 ≤ a → a < b → b ≤ 57 → cellOf builtIn a ≡ cellOf builtIn b → ⊥
+digits-differ a b low h high e = all-cells-differ a b (omega arith) h (omega arith) e
 
 -- ---- the set that serves
 pub empty-set-is-built-in : (f : List ℕ) (m : Machine) (im : List ℕ) (b : ℕ) → runCall (lending f []) m im b ≡ runCall (lending f builtIn) m im b

@@ -280,7 +280,7 @@ plot-ran = others.plot-run
 
 -- ==== Demand 2
 
--- ---- the plot comes before the step
+-- ---- the plot comes before the step (of characters: character-stores and character-word, in Drawing.antt)
 -- words of graph Y, lit or blank, run one after the other from any position with room for their steps: the whole state after them
 pub graph-y-plots-then-steps : (g : Given) (s : State) (ws : List ℕ) → Ready AlongX g s ws → run g (length ws) s ≡ plotted AlongX s ws
 graph-y-plots-then-steps = graphs.plot-then-step AlongX
@@ -326,7 +326,8 @@ runs-in-a-row = runs.run-twice
 -- ==== Demand 3
 
 -- ---- drift does not build up
--- whatever the budget: a coordinate is where it was last set, or where it began, and the sum of what the instructions completed after that moved it by
+-- whatever the budget: a coordinate is where it was last set, or where it began, and the sum of what the instructions completed after that moved it by, the
+-- advance of characters among them
 pub no-drift-x : (g : Given) (b : ℕ) (s : State) → run g b s .machine .x ≡ settled (s .machine .x) (changes (λ w. w .x) (s .machine .increment) (completed g b s))
 no-drift-x = drift.no-drift-x
 

@@ -139,7 +139,7 @@ module _ (g : Given) (m : Machine) where
 
   -- a word of mode 0 gets as far as its move where both its codes have a cell
   module _ (off : Off 15 w) (e : m .mode ≡ 0) where
-    characters-continue : Continues g m ↔ ((numberIn (first g m) ≡ 0) × (HasCell (firstCode w) × HasCell (secondCode w)))
+    pub characters-continue : Continues g m ↔ ((numberIn (first g m) ≡ 0) × (HasCell (firstCode w) × HasCell (secondCode w)))
     characters-continue = (
       λ c. (c .begins .fetched, codes-allowed (m .mode) w off e .0 (c .begins .allowed)),
       λ q. record {
