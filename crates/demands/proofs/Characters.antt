@@ -9,12 +9,12 @@ use native.Mathlib.Decide.{ℕ-discrete}
 use lib.ListN.{length, length-drop, getD, drop}
 use lib.Seq.{length-take-le, getD-take, getD-drop}
 use lib.IntN.{ℤ, pos, negsuc, _+ℤ_}
-use lib.Signed.{_≤ℤ_}
-use Rattle.whole.specs.Parts.{whole, add}
+use lib.Signed.{shrZ, _≤ℤ_}
+use Rattle.whole.specs.Parts.{whole, add, floor}
 use Rattle.definition.specs.Choice.{pick}
-use Rattle.definition.specs.Units.{units, pixel, moved}
+use Rattle.definition.specs.Units.{units, pixel, pixelsOf, moved}
 use Rattle.definition.specs.File.{numberIn}
-use Rattle.definition.specs.Image.{square, imageBytes, inside, stores}
+use Rattle.definition.specs.Image.{square, imageBytes, pixelAt, inside, stores}
 use Rattle.definition.specs.Words.{firstCode, secondCode, decode}
 use Rattle.definition.specs.Characters.{setBytes, cellOf, isSet, gathered, rowPixels, cellPixels}
 use Rattle.definition.specs.Machine.{withCounter, withPosition, shapeOf, penOf}
@@ -91,6 +91,14 @@ unfolding cellOf
 cell-byte set c r h = getD-take 8 (drop (8 * (c - 32)) set) r 0 h ∙ getD-drop (8 * (c - 32)) set r 0
 
 -- ---- a word of two characters
+-- the second cell stands directly to the right of the first
+eight-on : (x : ℤ) → shrZ (x +ℤ pos 16) 2 ≡ shrZ x 2 +ℤ pos 8
+eight-on x = omega (whole, floor x 2 (omega arith), floor (x +ℤ pos 16) 2 (omega arith), add x (pos 16), add (shrZ x 2) (pos 8))
+
+pub second-corner : (m : Machine) → secondCorner m ≡ pixel (firstCorner m .x .0 +ℤ pos 8) (firstCorner m .y .0)
+unfolding pixelAt pixelsOf
+second-corner m = ap (λ (z : ℤ). pixel z (shrZ (m .y .0) 2)) (eight-on (m .x .0))
+
 -- it is completed where it is fetched, both its codes have a cell, and its advance stays in range
 pub character-completes : (g : Given) (m : Machine) → Fits m → Off 15 (word g m) → m .mode ≡ 0
     → (refusal g m ≡ 0) ↔ ((numberIn (first g m) ≡ 0) × ((HasCell (firstCode (word g m)) × HasCell (secondCode (word g m))) × ((m .x .0 +ℤ pos 32) ≤ℤ pos 4095)))

@@ -8,7 +8,7 @@ use mathlib.Core.Logic.{_⊎_, _↔_}
 use lib.ListN.{length, getD, replicate}
 use lib.IntN.{ℤ, pos, _+ℤ_}
 use lib.Signed.{_≤ℤ_}
-use Rattle.definition.specs.Units.{units, moved}
+use Rattle.definition.specs.Units.{units, pixel, moved}
 use Rattle.definition.specs.Image.{Shape, square, imageBytes, pixelAt, inside}
 use Rattle.definition.specs.File.{numberIn}
 use Rattle.definition.specs.Words.{bit, bits, shortX, shortY, long, firstCode, secondCode}
@@ -24,7 +24,7 @@ use Rattle.definition.specs.declared.Machine.{Machine}
 use Rattle.demands.specs.Conditions.{Among, InRange, Fits, Open, During, InField, On, Off, LitWord, BlankWord, HasCell, word}
 use Rattle.demands.specs.Ledger.{completed}
 use Rattle.demands.specs.Graphs.{Axis, AllLit, stepped, weeks, ofLit, shown, weekAt, Ready, plotted}
-use Rattle.demands.specs.Cells.{LitIn, ByCharacters, DrawnCharacters}
+use Rattle.demands.specs.Cells.{LitIn, firstCorner, secondCorner, ByCharacters, DrawnCharacters}
 use Rattle.demands.specs.Strokes.{Stroke, strokesOf, strokes, strokePixels, drawn, ledgerWords, Lights, lightsBetween, Plots, vectorBetween, longerBetween, OnVector, LitVector, VectorWords, negated, Turned, seen, standing, Unstruck}
 use Rattle.demands.proofs.Strokes as all
 use Rattle.demands.proofs.Origins as origins
@@ -200,6 +200,10 @@ character-word = letters.character-word
 pub character-stores : (g : Given) (m : Machine) → refusal g m ≡ 0 → Off 15 (word g m) → m .mode ≡ 0 → m .write ≡ true
     → (p : Pixel) → Among p (step g m .pixels) ↔ (InField (shapeOf m) p × ByCharacters g m p)
 character-stores = letters.character-stores
+
+-- the second cell stands directly to the right of the first
+pub second-corner : (m : Machine) → secondCorner m ≡ pixel (firstCorner m .x .0 +ℤ pos 8) (firstCorner m .y .0)
+second-corner = letters.second-corner
 
 -- so of a run: a stroke of mode 0 is of it exactly when such a word, completed from a running machine, which is the stroke's own, lights its pixel
 pub character-origin : (g : Given) (b : ℕ) (s : State) (t : Stroke)

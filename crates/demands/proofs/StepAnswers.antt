@@ -6,7 +6,7 @@ use mathlib.Core.Path.{_≡_, refl, sym, ap, _∙_}
 use mathlib.Core.Logic.{_⊎_, inl, inr, ⊎-elim, _↔_}
 use native.Mathlib.Omega.{arith}
 use native.Mathlib.Decide.{ℕ-discrete}
-use lib.Dec.{eqb, leb}
+use lib.Dec.{eqb}
 use borrow.Author.Tests.{eq-eqb, eqb-true, leb-true}
 use Rattle.definition.specs.Choice.{pick, among, Test, firstOf, onlyIf}
 use Rattle.definition.specs.File.{numberIn, fetchRefusals}
@@ -24,7 +24,7 @@ use Rattle.definition.specs.declared.Order.{Order}
 use Rattle.definition.specs.declared.Order.the-variants.{SetMode, Jump, NoOp, StatusA, Increment, StatusC}
 use Rattle.definition.proofs.Answers.{refusal-is}
 use Rattle.definition.proofs.Exactly.{apart, names, exactly, none-holds, in-either, in-later, in-first, asked-if}
-use Rattle.definition.proofs.Plain.{_so_, _and_, _or_, itself, back, is-equal, not-equal, not-true, not-false, both-true, either-true, either-false, failing, never, implies, _nor_, last}
+use Rattle.definition.proofs.Plain.{_so_, _and_, _or_, itself, back, is-equal, not-equal, not-true, not-false, either-true, either-false, failing, never, implies, _nor_, last}
 use Rattle.demands.specs.Conditions.{InRange, Fits, On, NotBuilt, NoMode, BadCode, FirstRefused, Pair, TwoWords, SecondRefused, word, more, Begins, Continues, FetchRefused, taken, newX, newY, Stops, stopNumber, LatchIs}
 use Rattle.definition.proofs.StepLaws.{pick-keeps, step-done, step-refused}
 use Rattle.demands.proofs.Kept.{in-range}

@@ -13,7 +13,7 @@ use Rattle.definition.specs.declared.Item.{Item}
 use Rattle.definition.specs.declared.Instruction.{Instruction}
 use Rattle.definition.specs.declared.Instruction.the-variants.{Does}
 use Rattle.definition.proofs.Exactly.{apart}
-use Rattle.definition.proofs.Plain.{_so_, _and_, _or_, is-most, not-most, is-equal, not-equal, not-true, both-true, either-true, failing}
+use Rattle.definition.proofs.Plain.{_so_, _and_, _or_, is-most, not-most, is-equal, not-equal, not-true, both-true, failing}
 use Rattle.definition.proofs.StepLaws.{pick-keeps}
 use Rattle.demands.specs.Conditions.{On, Off, HasCell, NoCell, NotBuilt, NoMode, BadCode, FirstRefused, Pair, TwoWords, SecondRefused}
 

@@ -91,7 +91,7 @@ lightsBetween g mode w m m′ =
     (pick (eqb mode 5) (pixelAt (shapeOf m) (m .x) (m′ .y) ∷ [])
     (pixelAt (shapeOf m) (m′ .x) (m′ .y) ∷ []))))
 
--- the same as Lights, in words and positions alone
+-- the same as Lights, in words, positions and the set of characters alone
 pub record Plots (g : Given) (m : Machine) (p : Pixel) : Type 0 where
   pub free : refusal g m ≡ 0
   pub on : m .write ≡ true
