@@ -14,23 +14,24 @@ use Rattle.whole.specs.Parts.{whole, add, floor}
 use Rattle.definition.specs.Choice.{pick}
 use Rattle.definition.specs.Units.{units, pixel, pixelsOf, moved}
 use Rattle.definition.specs.File.{numberIn}
-use Rattle.definition.specs.Image.{square, imageBytes, pixelAt, inside, stores}
+use Rattle.definition.specs.Image.{square, imageBytes, pixelAt, inside, stores, Left}
 use Rattle.definition.specs.Words.{firstCode, secondCode, decode}
 use Rattle.definition.specs.Characters.{setBytes, cellOf, isSet, gathered, rowPixels, cellPixels}
 use Rattle.definition.specs.Machine.{withCounter, withPosition, shapeOf, penOf}
 use Rattle.definition.specs.Step.{wayOf, changed, done, Given, first, refusal, Step, step}
 use Rattle.definition.specs.Run.{State, begun, run}
-use Rattle.definition.specs.Calls.{readCall}
+use Rattle.definition.specs.Calls.{Lent, given, stepCall, readCall}
 use Rattle.definition.specs.declared.Pixel.{Pixel}
 use Rattle.definition.specs.declared.Machine.{Machine}
 use Rattle.definition.specs.declared.Instruction.{Instruction}
 use Rattle.definition.specs.declared.Item.the-variants.{Characters}
 use Rattle.definition.specs.declared.Instruction.the-variants.{Draws}
+use Rattle.definition.specs.declared.Ran.{Ran}
 use Rattle.definition.specs.declared.Read.{Read}
 use Rattle.definition.proofs.Exactly.{apart}
 use Rattle.definition.proofs.Plain.{_so_, _and_, _or_, itself, is-equal}
 use Rattle.definition.proofs.StepLaws.{step-done}
-use Rattle.demands.specs.Conditions.{Among, InRange, Fits, During, InField, Off, HasCell, word, more, newX, newY}
+use Rattle.demands.specs.Conditions.{Among, InRange, Fits, Open, During, InField, Off, HasCell, word, more, newX, newY}
 use Rattle.demands.specs.Cells.{LitIn, firstCorner, secondCorner, ByCharacters, DrawnCharacters, characters}
 use Rattle.demands.specs.Strokes.{Stroke, strokes, lightsBetween, Plots, seen}
 use Rattle.demands.proofs.Runs.{one-turn}
@@ -38,6 +39,7 @@ use Rattle.demands.proofs.Kept.{run-length}
 use Rattle.demands.proofs.Members.{in-append, in-inside}
 use Rattle.demands.proofs.StepAnswers.{refused-0}
 use Rattle.demands.proofs.Places.{lit-stores, stroke-in-words}
+use Rattle.demands.proofs.CallAnswers.{door-0, call-open}
 use Rattle.demands.proofs.OnePen.{lit-stands, unlit-stands}
 use Rattle.demands.proofs.OtherCalls.{read-0, reads-alike}
 use Rattle.demands.proofs.MovesOut as words
@@ -180,3 +182,14 @@ module _ (g : Given) (m : Machine) (im : List ℕ) (fits : Fits m) (running : m 
   no-character-reads p h =
       reads-alike square im (run g 1 (begun m im) .image) p (run-length g 1 (begun m im))
       (λ l f. ap (λ (t : List ℕ). seen square t p) image-is ∙ unlit-stands m fits im l p f (characters (g .set) m (word g m)) (λ i. h (in-characters g m p .0 i)))
+
+-- the same of a step that is called
+module _ (l : Lent) (m : Machine) (im : List ℕ) (o : Open l m im 1) (d : DrawnCharacters (given l) m) where
+  reads-so : (p : Pixel) → readCall square (stepCall l m im .image) p ≡ readCall square (run (given l) 1 (begun m im) .image) p
+  reads-so p = ap (λ (t : Left Ran). readCall square (t .image) p) (call-open l m im 1 (door-0 l m im 1 .1 o))
+
+  pub call-character-reads : (p : Pixel) → InField square p → ByCharacters (given l) m p → readCall square (stepCall l m im .image) p ≡ record { answer = 0; digit = m .value }
+  call-character-reads p f h = reads-so p ∙ character-reads (given l) m im (o .machine) (o .running) d p (o .image) f h
+
+  pub call-no-character-reads : (p : Pixel) → (ByCharacters (given l) m p → ⊥) → readCall square (stepCall l m im .image) p ≡ readCall square im p
+  call-no-character-reads p h = reads-so p ∙ no-character-reads (given l) m im (o .machine) (o .running) d p h

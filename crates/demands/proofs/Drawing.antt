@@ -218,6 +218,14 @@ module _ (g : Given) (m : Machine) (im : List ℕ) (fits : Fits m) (running : m 
   pub no-character-reads : (p : Pixel) → (ByCharacters g m p → ⊥) → readCall square (run g 1 (begun m im) .image) p ≡ readCall square im p
   no-character-reads = letters.no-character-reads g m im fits running d
 
+-- the same of a step that is called, with a set that may be lent (which set serves: below)
+module _ (l : Lent) (m : Machine) (im : List ℕ) (o : Open l m im 1) (d : DrawnCharacters (given l) m) where
+  pub call-character-reads : (p : Pixel) → InField square p → ByCharacters (given l) m p → readCall square (stepCall l m im .image) p ≡ record { answer = 0; digit = m .value }
+  call-character-reads = letters.call-character-reads l m im o d
+
+  pub call-no-character-reads : (p : Pixel) → (ByCharacters (given l) m p → ⊥) → readCall square (stepCall l m im .image) p ≡ readCall square im p
+  call-no-character-reads = letters.call-no-character-reads l m im o d
+
 -- ---- the built-in set: 760 bytes; no two of its cells are alike, so the ten digits' all differ; that of code 32 is blank and no other is
 pub built-in-length : length builtIn ≡ setBytes
 built-in-length = set.built-in-length

@@ -105,6 +105,10 @@ pub lit-by-a : InField square (dot 8 12) × ByCharacters lettering (before 0) (d
 unfolding rules builtIn
 lit-by-a = (record { x = (omega whole, omega whole); y = (omega whole, omega whole) }, inl (record { r = 0; k = 3; row = omega arith; column = omega arith; place = refl; bit-set = refl }))
 
+pub lettering-open : Open (plain (file (0o041101 ∷ []))) (before 0) blank 1
+unfolding rules
+lettering-open = door-0 (plain (file (0o041101 ∷ []))) (before 0) blank 1 .0 refl
+
 -- of a data word of another mode a clear bit 14 is met
 pub blank-met : BlankWord 1 0o001000
 blank-met = (λ e. omega arith, refl)
