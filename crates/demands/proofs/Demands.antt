@@ -220,7 +220,8 @@ module _ (g : Given) (m : Machine) where
   order-never-27 = moves.order-stays g m
 
   -- a vector or a relative point gives it exactly when X or Y and its move sum to less than -4,096 or more than 4,095; an absolute point never does; a graph
-  -- word exactly when the coordinate that it steps along and the increment sum to more than 4,095; a word of two characters exactly when X and 32 do
+  -- word exactly when the coordinate that it steps along and the increment sum to more than 4,095; a word of two characters, both codes in
+  -- 32 to 126, exactly when X and 32 do
   module _ (off : Off 15 (word g m)) where
     pub mode-0-27 : Fits m → m .mode ≡ 0
         → MovesOut g m ↔ ((numberIn (first g m) ≡ 0) × ((HasCell (firstCode (word g m)) × HasCell (secondCode (word g m))) × (pos 4095 <ℤ (m .x .0 +ℤ pos 32))))
