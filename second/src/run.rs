@@ -1,7 +1,7 @@
 //! Steps and runs: the doors in their order, then one instruction after another.
 
 use crate::answer::{Answer, Door, Fault};
-use crate::characters::{self, Code, Set, ADVANCE};
+use crate::characters::{Code, Set, ADVANCE};
 use crate::file::File;
 use crate::image::Image;
 use crate::machine::{Machine, State, Status};
@@ -211,9 +211,7 @@ fn draw(step: &Step, image: &mut Image, set: Set) -> u64 {
         Some(Item::Characters(mut at, codes)) => {
             let mut stores = 0;
             for code in codes {
-                for place in characters::pixels(at.place(), set.cell(code)) {
-                    stores += u64::from(image.store(place, value));
-                }
+                stores += image.store_cell(at.place(), set.cell(code), value);
                 at.x = at.x + ADVANCE;
             }
             stores
