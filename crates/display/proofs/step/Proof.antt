@@ -21,7 +21,7 @@ returns c = turned-away _ _ _ _ (c .before .before .run-door .ensures) (c .befor
 run-requires : tie.Need-run-requires
 run-requires c κs =
     let o = opened _ _ _ _ (sym (c .before .before .run-door .ensures) ∙ c .before .if1 .left) in
-    (o .0, o .1, omega (arith, o .2))
+    (o .0, o .1, omega (arith, o .2), o .3)
 
 same-length-2 : tie.Need-same-length-2
 same-length-2 c = search needs
