@@ -1,19 +1,26 @@
 -- Laws of drawing one list of pixels after another: a bit, a turn of a loop, a row, and how many pixels are stored at most.
-use Prim.Native.Nat.{ℕ, zero, suc, _+_, _-_, _*_, _≤_}
-use mathlib.Core.Bool.{Bool, true, false}
+use Prim.Native.Nat.{ℕ, zero, suc, _+_, _-_, _*_, _<_, _≤_}
+use mathlib.Core.Bool.{Bool, true, false, _&&_}
 use mathlib.Core.Path.{_≡_, refl, sym, ap, _∙_}
 use mathlib.Core.List.{List, [], _∷_, _++_}
 use native.Mathlib.Omega.{arith}
 use native.Mathlib.Numerals.{add-one}
 use lib.ListN.{length, getD, length-append}
 use lib.IntN.{ℤ, pos, _+ℤ_}
+use lib.Signed.{leZ, ltZ}
+use Rattle.whole.specs.Parts.{whole, abs}
 use Rattle.definition.specs.Choice.{pick}
 use Rattle.definition.specs.Units.{pixels, pixel}
-use Rattle.definition.specs.Image.{Shape, Pen, inField, inside, stores, Left, left}
+use Rattle.definition.specs.Image.{Shape, Pen, below, inField, inside, store, stores, Left, left}
 use Rattle.definition.specs.Characters.{isSet, gathered, rowPixels, cellPixels}
 use Rattle.definition.specs.declared.Pixels.{Pixels}
 use Rattle.definition.specs.declared.Pixel.{Pixel}
+use Rattle.definition.proofs.Plain.{both-true}
 use Rattle.definition.proofs.StoreLaws.{stores-append, inside-append}
+use Rattle.units.specs.Answers.{indexIn}
+use Rattle.units.specs.declared.Index.{Index}
+use Rattle.units.specs.declared.Index.the-variants.{At, Outside}
+use Rattle.units.proofs.AnswerLaws.{index-at, index-outside}
 use Rattle.image.specs.Drawn.{drawn}
 use Rattle.cells.specs.Cell.{dot, bitPixels, rowAt}
 
@@ -104,7 +111,50 @@ module _ (s : Shape) (pen : Pen) (im : List ℕ) {r : ℕ} {im′ : List ℕ} wh
   pub cell-at-most : (corner : Pixel) (cell : List ℕ) → left r im′ ≡ drawn s pen im (cellPixels corner cell) → r ≤ 64
   cell-at-most corner cell d = omega (arith, drawn-few s pen im (cellPixels corner cell) d, cell-few corner cell)
 
--- ---- a row with no bit set
-pub row-empty : (s : Shape) (pen : Pen) (im : List ℕ) (x y : ℤ) (row : ℕ) → row ≡ 0 → left 0 im ≡ drawn s pen im (rowPixels x y row)
-unfolding drawn inside stores rowPixels gathered
-row-empty s pen im x y row e = rw e
+-- ---- what is outside
+none-inside : (s : Shape) (f : ℕ → List Pixel) → ((k : ℕ) → inside s (f k) ≡ []) → (k : ℕ) → inside s (gathered f k) ≡ []
+unfolding inside gathered
+none-inside s f h zero = refl
+none-inside s f h (suc k) = rw (inside-append s (gathered f k) (f k), none-inside s f h k) (h k)
+
+beside : (s : Shape) (on : Bool) (x y : ℤ) → below (s .height) y ≡ false → inside s (pick on (pixel x y ∷ []) []) ≡ []
+unfolding inside inField
+beside s true x y e = rw e (go (below (s .width) x))
+  where
+    go : (t : Bool) → pick (t && false) (pixel x y ∷ []) [] ≡ []
+    go true = refl
+    go false = refl
+beside s false x y e = refl
+
+index-is : (n : ℕ) (p : Pixels) {i : ℕ} → indexIn n p ≡ At i → p .0 ≡ pos i
+index-is n p e =
+    let w = index-at n p e in
+    let b = both-true {s = leZ (pos 0) (p .0)} {t = ltZ (p .0) (pos n)} .0 (w .0) in
+    omega (whole, abs (p .0), w .1)
+
+-- ---- a bit that is in the field
+below-is : (n x : ℕ) → x < n → below n (pos x) ≡ true
+below-is n x h =
+    let l : leZ (pos 0) (pos x) ≡ true = omega whole in
+    let r : ltZ (pos x) (pos n) ≡ true = omega whole in
+    rw (l, r)
+
+pub bit-stored : (s : Shape) (pen : Pen) (im : List ℕ) (x y : ℕ) {on : Bool} {im′ : List ℕ} → on ≡ true → x < s .width → y < s .height → im′ ≡ store s pen im x y
+    → left 1 im′ ≡ drawn s pen im (dot on (pixel (pos x) (pos y)))
+unfolding dot drawn inside inField stores
+bit-stored s pen im x y e hx hy st = rw (e, below-is (s .width) x hx, below-is (s .height) y hy, st)
+
+-- ---- a row with no bit set, above or below the field, and in the field
+module _ (s : Shape) (pen : Pen) (im : List ℕ) (row : ℕ) where
+  pub row-empty : (x y : ℤ) → row ≡ 0 → left 0 im ≡ drawn s pen im (rowPixels x y row)
+  unfolding drawn inside stores rowPixels gathered
+  row-empty x y e = rw e
+
+  module _ (x y : Pixels) {gy : Index} (ey : gy ≡ indexIn (s .height) y) where
+    pub row-beside : gy ≡ Outside → left 0 im ≡ drawn s pen im (rowPixels (x .0) (y .0) row)
+    unfolding drawn stores rowPixels
+    row-beside o = rw (none-inside s (bitPixels (x .0) (y .0) row) (λ k. beside s (isSet row k) (x .0 +ℤ pos k) (y .0) (index-outside (s .height) y (sym ey ∙ o))) 8)
+
+    pub row-inside : (n : ℕ) {gx : Index} {i j r : ℕ} {im′ : List ℕ} → gx ≡ indexIn n x → gx ≡ At i → gy ≡ At j → left r im′ ≡ drawn s pen im (rowPixels (pos i) (pos j) row)
+        → left r im′ ≡ drawn s pen im (rowPixels (x .0) (y .0) row)
+    row-inside n ex ax ay d = rw (index-is n x (sym ex ∙ ax), index-is (s .height) y (sym ey ∙ ay)) d

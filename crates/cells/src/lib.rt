@@ -4,18 +4,22 @@ mod set;
 use definition::Ink;
 use definition::Pixel;
 use definition::Pixels;
+use units::Index;
 ghost use mathlib.Core.Path.{_≡_};
 ghost use mathlib.Core.Bool.{true};
-ghost use Prim.Native.Nat.{_<_};
+ghost use Prim.Native.Nat.{_+_, _<_};
 ghost use lib.IntN.{pos, _+ℤ_};
 ghost use lib.ListN.{length};
-ghost use Rattle.definition.specs.Units.{pixels};
+ghost use Rattle.definition.specs.Units.{pixels, pixel};
 ghost use Rattle.definition.specs.Image.{imageBytes, inkShape, inkPen, left};
 ghost use Rattle.definition.specs.Words.{isCode};
 ghost use Rattle.definition.specs.Characters.{setBytes, chosen, cellOf, isSet, rowPixels, cellPixels};
 ghost use Rattle.image.specs.Drawn.{drawn};
 ghost use Rattle.cells.specs.Cell.{Near, dot};
 pub use set::BUILT_IN;
+
+// The columns where a row of eight pixels can begin and end in the field.
+const COLUMNS: usize = 505;
 
 // Where no set is lent, the built-in one serves.
 fn choose<'a>(lent: &'a [u8], built: &'a [u8]) -> &'a [u8]
@@ -91,7 +95,34 @@ fn plot_row(image: &mut [u8], row: u8, x: Pixels, y: Pixels, ink: Ink) -> u32
     count
 }
 
-// A row from (x, y) to the right.
+// The same for a pixel that is in the field.
+fn store_bit(image: &mut [u8], on: bool, x: usize, y: usize, ink: Ink) -> u32
+    requires { ⌜ (length (now image) ≡ imageBytes) × (x < inkShape ink .width) × (y < inkShape ink .height) × (ink .value < inkShape ink .base) ⌝ }
+    ensures { λ r. ⌜ left r (now (image .exit)) ≡ drawn (inkShape ink) (inkPen ink) (now (image .entry)) (dot on (pixel (pos x) (pos y))) ⌝ }
+{
+    if on {
+        image::store(image, x, y, ink);
+        return 1;
+    }
+    0
+}
+
+// A row that lies in the field from end to end: none of its pixels is asked.
+fn store_row(image: &mut [u8], row: u8, x: usize, y: usize, ink: Ink) -> u32
+    requires { ⌜ (length (now image) ≡ imageBytes) × (x + 7 < inkShape ink .width) × (y < inkShape ink .height) × (ink .value < inkShape ink .base) ⌝ }
+    ensures { λ r. ⌜ left r (now (image .exit)) ≡ drawn (inkShape ink) (inkPen ink) (now (image .entry)) (rowPixels (pos x) (pos y) row) ⌝ }
+{
+    let mut k = 0;
+    let mut count = 0;
+    while k < 8 {
+        let on = is_set(row, k);
+        count += store_bit(image, on, x + k as usize, y, ink);
+        k += 1;
+    }
+    count
+}
+
+// A row from (x, y) to the right. Most have no bit set, or lie in the field from end to end, or above or below it: a test each, and no pixel is asked.
 fn draw_row(image: &mut [u8], row: u8, x: Pixels, y: Pixels, ink: Ink) -> u32
     requires { ⌜ (length (now image) ≡ imageBytes) × Near x × (ink .value < inkShape ink .base) ⌝ }
     ensures { λ r. ⌜ left r (now (image .exit)) ≡ drawn (inkShape ink) (inkPen ink) (now (image .entry)) (rowPixels (x .0) (y .0) row) ⌝ }
@@ -99,7 +130,13 @@ fn draw_row(image: &mut [u8], row: u8, x: Pixels, y: Pixels, ink: Ink) -> u32
     if row == 0 {
         return 0;
     }
-    plot_row(image, row, x, y, ink)
+    let Index::At(line) = units::index_in(image::HEIGHT, y) else {
+        return 0;
+    };
+    let Index::At(column) = units::index_in(COLUMNS, x) else {
+        return plot_row(image, row, x, y, ink);
+    };
+    store_row(image, row, column, line, ink)
 }
 
 // A cell by its lower left corner, the top row first: answers how many pixels were stored.
