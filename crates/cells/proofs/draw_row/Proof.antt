@@ -34,13 +34,13 @@ enum-told-2 : tie.Need-enum-told-2
 enum-told-2 c = search needs
 
 plot-row-requires : tie.Need-plot-row-requires
-plot-row-requires c κs = search needs
+plot-row-requires c κs = c .before .before .before .before .before .before .before .before .before .before .pre
 
 same-length : tie.Need-same-length
-same-length c = search needs
+same-length c = c .before .before .plot-row .kept .0
 
 returns-3 : tie.Need-returns-3
-returns-3 c = search needs
+returns-3 c = c .before .before .plot-row .ensures
 
 store-row-requires : tie.Need-store-row-requires
 store-row-requires c κs =
@@ -52,7 +52,7 @@ store-row-requires c κs =
     (h .0, omega arith, hy, h .2)
 
 same-length-2 : tie.Need-same-length-2
-same-length-2 c = search needs
+same-length-2 c = c .before .before .store-row .kept .0
 
 returns-4 : tie.Need-returns-4
 returns-4 c =
