@@ -67,7 +67,7 @@ fn pair<'a>(
     stores + letter(m, image, lent, built, second, next)
 }
 
-// Nothing is drawn while write is off. The built-in set is laid out, which is slow, only where it serves (docs/PERFORMANCE.md).
+// Nothing is drawn while write is off. The built-in set is laid out anew at each use, which is slow, so only where it serves.
 fn both(m: Machine, image: &mut [u8], lent: &[u8], first: u8, second: u8) -> u32
     requires { ⌜ (length (now image) ≡ imageBytes) × (ranged m ≡ true) × (inRange (moved (m .x) (units (pos advance))) ≡ true) × (isCode first ≡ true) × (isCode second ≡ true) × (length (chosen (now lent) builtIn) ≡ setBytes) ⌝ }
     ensures { λ r. ⌜ left r (now (image .exit)) ≡ lights m true (now (image .entry)) (pairPixels (chosen (now (lent .entry)) builtIn) m first second) ⌝ }
