@@ -47,9 +47,13 @@ fn turned_away(m: Machine, door: u8) -> Ran
 pub fn step(file: &[u16], m: Machine, image: &mut [u8], set: &[u8]) -> Ran
     ensures { λ r. ⌜ Promise-step (lending (now (file .entry)) (now (set .entry))) m (now (image .entry)) r (now (image .exit)) ⌝ }
 {
-    let why = doors::run_door(file, m, image, 1, set);
+    let why = doors::lent_door(file, image);
     if why != 0 {
         return turned_away(m, why);
+    }
+    let also = doors::asked_door(m, 1, set);
+    if also != 0 {
+        return turned_away(m, also);
     }
     run::run(file, m, image, 1, set)
 }
@@ -58,9 +62,13 @@ pub fn step(file: &[u16], m: Machine, image: &mut [u8], set: &[u8]) -> Ran
 pub fn run(file: &[u16], m: Machine, image: &mut [u8], budget: u32, set: &[u8]) -> Ran
     ensures { λ r. ⌜ Promise-run (lending (now (file .entry)) (now (set .entry))) m (now (image .entry)) budget r (now (image .exit)) ⌝ }
 {
-    let door = doors::run_door(file, m, image, budget, set);
-    if door != 0 {
-        return turned_away(m, door);
+    let wrong = doors::lent_door(file, image);
+    if wrong != 0 {
+        return turned_away(m, wrong);
+    }
+    let shut = doors::asked_door(m, budget, set);
+    if shut != 0 {
+        return turned_away(m, shut);
     }
     run::run(file, m, image, budget, set)
 }

@@ -1,4 +1,4 @@
-// The doors of a call: the ranges of a machine's fields, and all that a run asks before its first step.
+// The doors of a call: the ranges of a machine's fields, and all that a run asks before its first step, in two parts.
 use definition::Machine;
 ghost use mathlib.Core.Path.{_≡_};
 ghost use Rattle.definition.specs.Machine.{isMode, isStatus, ranged};
@@ -6,7 +6,7 @@ ghost use mathlib.Core.Bool.{_||_};
 ghost use lib.Dec.{eqb};
 ghost use lib.ListN.{length};
 ghost use Rattle.definition.specs.Characters.{setBytes};
-ghost use Rattle.definition.specs.Calls.{lending, runDoor};
+ghost use Rattle.doors.specs.Doors.{lentDoor, askedDoor};
 
 const MOST_STEPS: u32 = 1000000;
 
@@ -66,18 +66,21 @@ fn is_set(set: &[u8]) -> bool
     set.len() == SET_BYTES
 }
 
-// In this order: 11, 12 to 15, 16, 17, 18, 28; or 0.
-pub fn run_door(file: &[u16], m: Machine, image: &[u8], budget: u32, set: &[u8]) -> u8
-    ensures { λ r. ⌜ r ≡ runDoor (lending (now (file .entry)) (now (set .entry))) m (now (image .entry)) budget ⌝ }
+// The first doors of a run, in this order: 11, 12 to 15; or 0.
+pub fn lent_door(file: &[u16], image: &[u8]) -> u8
+    ensures { λ r. ⌜ r ≡ lentDoor (now (file .entry)) (now (image .entry)) ⌝ }
 {
-    let status = m.status;
     if image.len() != image::BYTES {
         return 11;
     }
-    let wrong = file::check(file);
-    if wrong != 0 {
-        return wrong;
-    }
+    file::check(file)
+}
+
+// The doors after them, in this order: 16, 17, 18, 28; or 0. They are a function of their own so that a call has both in place (docs/PERFORMANCE.md).
+pub fn asked_door(m: Machine, budget: u32, set: &[u8]) -> u8
+    ensures { λ r. ⌜ r ≡ askedDoor m budget (now (set .entry)) ⌝ }
+{
+    let status = m.status;
     if !ranged(m) {
         return 16;
     }
