@@ -1,9 +1,6 @@
-use mathlib.Core.Path.{sym, _∙_}
-use native.Mathlib.Omega.{arith}
-use Rattle.definition.specs.Calls.{lending}
-use Rattle.doors.proofs.DoorLaws.{first-shut, first-open, opened}
-use Rattle.display.proofs.CallLaws.{turned-away, ran}
 use borrow.Author.Needs.{needs}
+use Rattle.definition.specs.Calls.{lending}
+use Rattle.display.proofs.CallLaws.{turned-away, turned-away-then, granted, ran}
 use Rattle.display.proofs.step.Statement.{statement}
 use Rattle.display.proofs.step.Tie as tie
 
@@ -17,7 +14,7 @@ same-length : tie.Need-same-length
 same-length c = search needs
 
 returns : tie.Need-returns
-returns c = turned-away (lending _ _) _ _ _ (first-shut (lending _ _) _ _ _ (c .before .before .lent-door .ensures) (c .before .if1 .taken)) (c .before .if1 .taken) (c .turned-away .ensures)
+returns c = turned-away (lending _ _) _ _ _ (c .before .before .lent-door .ensures) (c .before .if1 .taken) (c .turned-away .ensures)
 
 asked-door-requires : tie.Need-asked-door-requires
 asked-door-requires c κs = search needs
@@ -29,23 +26,23 @@ same-length-2 : tie.Need-same-length-2
 same-length-2 c = search needs
 
 returns-2 : tie.Need-returns-2
-returns-2 c = let a = c .before .before in
-    turned-away (lending _ _) _ _ _ (first-open (lending _ _) _ _ _ (a .before .before .lent-door .ensures) (a .before .if1 .left) (a .asked-door .ensures)) (c .before .if2 .taken) (c .turned-away2 .ensures)
+returns-2 c =
+    let a = c .before .before in
+    turned-away-then (lending _ _) _ _ _ (a .before .before .lent-door .ensures) (a .before .if1 .left) (a .asked-door .ensures) (c .before .if2 .taken) (c .turned-away2 .ensures)
 
 run-requires : tie.Need-run-requires
-run-requires c κs = let a = c .before .before in
-    let door = first-open (lending _ _) _ _ _ (a .before .before .lent-door .ensures) (a .before .if1 .left) (a .asked-door .ensures) in
-    let o = opened (lending _ _) _ _ _ (sym door ∙ c .before .if2 .left) in
-    (o .0, o .1, omega (arith, o .2), o .3)
+run-requires c κs =
+    let a = c .before .before in
+    granted (lending _ _) _ _ _ (a .before .before .lent-door .ensures) (a .before .if1 .left) (a .asked-door .ensures) (c .before .if2 .left)
 
 same-length-3 : tie.Need-same-length-3
 same-length-3 c = search needs
 
 returns-3 : tie.Need-returns-3
-returns-3 c = let r = c .before .before in
+returns-3 c =
+    let r = c .before .before in
     let a = r .before .before .before in
-    let door = first-open (lending _ _) _ _ _ (a .before .before .lent-door .ensures) (a .before .if1 .left) (a .asked-door .ensures) in
-    ran (lending _ _) _ _ _ door (r .before .before .if2 .left) (r .run .ensures)
+    ran (lending _ _) _ _ _ (a .before .before .lent-door .ensures) (a .before .if1 .left) (a .asked-door .ensures) (r .before .before .if2 .left) (r .run .ensures)
 
 pub step-spec : {M : Type 1} → statement M
 step-spec =
