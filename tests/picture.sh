@@ -82,7 +82,7 @@ for steps in 32768 $((seed % 40)) $((seed % 1000001)); do
     }
 done
 
-# ---- the fault: the marks of the weeks, of value 3, and no other pixel stand 8 columns further right
+# ---- the fault: the marks of the weeks, of value 3 within the axes, stand 8 columns further right, and no other pixel does: no number, no line
 "$second" picture <examples/weeks.df >"$work/right"
 "$second" fault <examples/weeks.df >"$work/late"
 # PICTURE: the column, the row from the top and the value of each pixel that is not 0
@@ -92,9 +92,10 @@ pixels() {
 pixels "$work/right" >"$work/right.pixels"
 pixels "$work/late" >"$work/late.pixels"
 shifted=$(awk '
-    FNR == NR && $3 == 3 { marks++; right[$1 + 8, $2]; left[$1, $2]; next }
+    { mark = $3 == 3 && $1 >= 46 && $2 < 464 }
+    FNR == NR && mark { marks++; right[$1 + 8, $2]; left[$1, $2]; next }
     FNR == NR { other[$1, $2] = $3; next }
-    $3 == 3 { late++; if (!(($1, $2) in right)) wrong++; if (($1, $2) in other) hidden++; next }
+    mark { late++; if (!(($1, $2) in right)) wrong++; if (($1, $2) in other) hidden++; next }
     (($1, $2) in other) { same++; if (other[$1, $2] != $3) wrong++; next }
     !(($1, $2) in left) { wrong++ }
     END { for (place in other) others++; print marks, late, wrong + 0, others - hidden - same }' "$work/right.pixels" "$work/late.pixels")

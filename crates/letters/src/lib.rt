@@ -67,7 +67,20 @@ fn pair<'a>(
     stores + letter(m, image, lent, built, second, next)
 }
 
-// Nothing is drawn while write is off. The built-in set is laid out anew at each use, which is slow, so only where it serves.
+// By the set that serves. The built-in one is laid out, which is slow, only where it is that one.
+fn served(m: Machine, image: &mut [u8], lent: &[u8], first: u8, second: u8) -> u32
+    requires { ⌜ (length (now image) ≡ imageBytes) × (ranged m ≡ true) × (inRange (moved (m .x) (units (pos advance))) ≡ true) × (isCode first ≡ true) × (isCode second ≡ true) × (length (chosen (now lent) builtIn) ≡ setBytes) ⌝ }
+    ensures { λ r. ⌜ left r (now (image .exit)) ≡ drawn (shapeOf m) (penOf m) (now (image .entry)) (pairPixels (chosen (now (lent .entry)) builtIn) m first second) ⌝ }
+{
+    if lent.len() != 0 {
+        return pair(m, image, lent, lent, first, second);
+    }
+    let built = cells::BUILT_IN;
+    pair(m, image, lent, &built, first, second)
+}
+
+// Nothing is drawn while write is off. Two calls of `served`, so that the compiler leaves it a function of its own: in their place, every run would begin by
+// loading the built-in set (docs/PERFORMANCE.md).
 fn both(m: Machine, image: &mut [u8], lent: &[u8], first: u8, second: u8) -> u32
     requires { ⌜ (length (now image) ≡ imageBytes) × (ranged m ≡ true) × (inRange (moved (m .x) (units (pos advance))) ≡ true) × (isCode first ≡ true) × (isCode second ≡ true) × (length (chosen (now lent) builtIn) ≡ setBytes) ⌝ }
     ensures { λ r. ⌜ left r (now (image .exit)) ≡ lights m true (now (image .entry)) (pairPixels (chosen (now (lent .entry)) builtIn) m first second) ⌝ }
@@ -75,11 +88,10 @@ fn both(m: Machine, image: &mut [u8], lent: &[u8], first: u8, second: u8) -> u32
     if !m.write {
         return 0;
     }
-    if lent.len() != 0 {
-        return pair(m, image, lent, lent, first, second);
+    if lent.len() == 0 {
+        return served(m, image, lent, first, second);
     }
-    let built = cells::BUILT_IN;
-    pair(m, image, lent, &built, first, second)
+    served(m, image, lent, first, second)
 }
 
 // X goes past both characters, or out of its range, and then neither is drawn.
