@@ -22,6 +22,9 @@ use Rattle.units.specs.declared.Index.{Index}
 use Rattle.units.specs.declared.Index.the-variants.{At, Outside}
 use Rattle.units.proofs.AnswerLaws.{index-at, index-outside}
 use Rattle.image.specs.Drawn.{drawn}
+pub use Rattle.image.proofs.DrawnLaws.{drawn-then}
+use Rattle.image.proofs.DrawnLaws.{drawn-few}
+use Rattle.image.proofs.CellCounts.{bit-few, row-few, cell-few}
 use Rattle.cells.specs.Cell.{dot, bitPixels, rowAt}
 
 -- ---- one list after another
@@ -30,21 +33,16 @@ module _ (s : Shape) (pen : Pen) (im : List ℕ) where
   unfolding drawn inside stores
   drawn-none = refl
 
-  pub drawn-then : (ps qs : List Pixel) {n r : ℕ} {im′ im″ : List ℕ} → left n im′ ≡ drawn s pen im ps → left r im″ ≡ drawn s pen im′ qs → left (n + r) im″ ≡ drawn s pen im (ps ++ qs)
-  unfolding drawn
-  drawn-then ps qs {n} {r} {im′} {im″} e d =
-      let before = ap (λ (l : Left ℕ). l .image) e in
-      let count = ap (λ (l : Left ℕ). l .result) e in
-      let more = ap (λ (l : Left ℕ). l .result) d in
-      let after = ap (λ (l : Left ℕ). l .image) d in
-      let c : n + r ≡ length (inside s (ps ++ qs)) = rw (inside-append s ps qs) (rw (count, more) (sym (length-append (inside s ps) (inside s qs)))) in
-      let i : im″ ≡ stores s pen im (inside s (ps ++ qs)) = rw (inside-append s ps qs) (after ∙ ap (λ (l : List ℕ). stores s pen l (inside s qs)) before ∙ sym (stores-append s pen im (inside s ps) (inside s qs))) in
-      rw (c, i)
-
   -- a turn of a drawing loop
   pub drawn-turn : (f : ℕ → List Pixel) (k : ℕ) {n r : ℕ} {im′ im″ : List ℕ} → left n im′ ≡ drawn s pen im (gathered f k) → left r im″ ≡ drawn s pen im′ (f k) → left (n + r) im″ ≡ drawn s pen im (gathered f (k + 1))
   unfolding gathered
-  drawn-turn f k e d = rw (add-one k) (drawn-then (gathered f k) (f k) e d)
+  drawn-turn f k e d = rw (add-one k) (drawn-then s pen im (gathered f k) (f k) e d)
+
+  -- a turn that draws nothing
+  drawn-skip : (f : ℕ → List Pixel) (k : ℕ) {n : ℕ} {im′ : List ℕ} → left n im′ ≡ drawn s pen im (gathered f k) → left 0 im′ ≡ drawn s pen im′ (f k) → left n im′ ≡ drawn s pen im (gathered f (k + 1))
+  drawn-skip f k {n} e d =
+      let z : n + 0 ≡ n = omega arith in
+      rw z at (drawn-turn f k e d)
 
   -- ---- a bit
   module _ (p : Pixel) {on : Bool} where
@@ -63,43 +61,7 @@ pub row-turn : (s : Shape) (pen : Pen) (im : List ℕ) (x y : ℤ) (row k : ℕ)
 unfolding dot
 row-turn s pen im x y row k e eo ep d = drawn-turn s pen im (bitPixels x y row) k e (rw (eo, ep) at d)
 
--- a turn of a cell's loop: yr is the line of row i, and row its byte
-pub cell-turn : (s : Shape) (pen : Pen) (im : List ℕ) (corner : Pixel) (cell : List ℕ) (i : ℕ) {yr : Pixels} {n r : ℕ} {im′ im″ : List ℕ}
-    → left n im′ ≡ drawn s pen im (gathered (rowAt corner cell) i) → yr ≡ pixels (corner .y .0 +ℤ pos (7 - i)) → left r im″ ≡ drawn s pen im′ (rowPixels (corner .x .0) (yr .0) (getD cell i 0))
-    → left (n + r) im″ ≡ drawn s pen im (gathered (rowAt corner cell) (i + 1))
-cell-turn s pen im corner cell i e ey d = drawn-turn s pen im (rowAt corner cell) i e (rw ey at d)
-
 -- ---- how many at most
-inside-shorter : (s : Shape) (ps : List Pixel) → length (inside s ps) ≤ length ps
-unfolding inside
-inside-shorter s [] = omega arith
-inside-shorter s (p ∷ ps) = go (inField s p) (inside-shorter s ps)
-  where
-    go : (t : Bool) → length (inside s ps) ≤ length ps → length (pick t (p ∷ inside s ps) (inside s ps)) ≤ length (p ∷ ps)
-    go true h = omega arith
-    go false h = omega arith
-
-drawn-few : (s : Shape) (pen : Pen) (im : List ℕ) (ps : List Pixel) {r : ℕ} {im′ : List ℕ} → left r im′ ≡ drawn s pen im ps → r ≤ length ps
-unfolding drawn
-drawn-few s pen im ps e = let c = ap (λ (l : Left ℕ). l .result) e in omega (arith, inside-shorter s ps)
-
-gathered-few : (f : ℕ → List Pixel) (n : ℕ) → ((k : ℕ) → length (f k) ≤ n) → (k : ℕ) → length (gathered f k) ≤ n * k
-unfolding gathered
-gathered-few f n h zero = omega arith
-gathered-few f n h (suc k) = omega (arith, length-append (gathered f k) (f k), gathered-few f n h k, h k)
-
-bit-few : (on : Bool) (p : Pixel) → length (pick on (p ∷ []) []) ≤ 1
-bit-few true p = omega arith
-bit-few false p = omega arith
-
-row-few : (x y : ℤ) (row : ℕ) → length (rowPixels x y row) ≤ 8
-unfolding rowPixels
-row-few x y row = gathered-few (bitPixels x y row) 1 (λ k. bit-few (isSet row k) _) 8
-
-cell-few : (corner : Pixel) (cell : List ℕ) → length (cellPixels corner cell) ≤ 64
-unfolding cellPixels
-cell-few corner cell = gathered-few (rowAt corner cell) 8 (λ r. row-few _ _ _) 8
-
 module _ (s : Shape) (pen : Pen) (im : List ℕ) {r : ℕ} {im′ : List ℕ} where
   pub bit-at-most : (on : Bool) (p : Pixel) → left r im′ ≡ drawn s pen im (dot on p) → r ≤ 1
   unfolding dot
@@ -144,17 +106,31 @@ pub bit-stored : (s : Shape) (pen : Pen) (im : List ℕ) (x y : ℕ) {on : Bool}
 unfolding dot drawn inside inField stores
 bit-stored s pen im x y e hx hy st = rw (e, below-is (s .width) x hx, below-is (s .height) y hy, st)
 
--- ---- a row with no bit set, above or below the field, and in the field
-module _ (s : Shape) (pen : Pen) (im : List ℕ) (row : ℕ) where
-  pub row-empty : (x y : ℤ) → row ≡ 0 → left 0 im ≡ drawn s pen im (rowPixels x y row)
+-- ---- a row with no bit set, and one above or below the field
+module _ (s : Shape) (pen : Pen) (im : List ℕ) where
+  row-empty : (x y : ℤ) {row : ℕ} → row ≡ 0 → left 0 im ≡ drawn s pen im (rowPixels x y row)
   unfolding drawn inside stores rowPixels gathered
   row-empty x y e = rw e
 
-  module _ (x y : Pixels) {gy : Index} (ey : gy ≡ indexIn (s .height) y) where
-    pub row-beside : gy ≡ Outside → left 0 im ≡ drawn s pen im (rowPixels (x .0) (y .0) row)
-    unfolding drawn stores rowPixels
-    row-beside o = rw (none-inside s (bitPixels (x .0) (y .0) row) (λ k. beside s (isSet row k) (x .0 +ℤ pos k) (y .0) (index-outside (s .height) y (sym ey ∙ o))) 8)
+  row-beside : (x : ℤ) (y : Pixels) (row : ℕ) → below (s .height) (y .0) ≡ false → left 0 im ≡ drawn s pen im (rowPixels x (y .0) row)
+  unfolding drawn stores rowPixels
+  row-beside x y row o = rw (none-inside s (bitPixels x (y .0) row) (λ k. beside s (isSet row k) (x +ℤ pos k) (y .0) o) 8)
 
-    pub row-inside : (n : ℕ) {gx : Index} {i j r : ℕ} {im′ : List ℕ} → gx ≡ indexIn n x → gx ≡ At i → gy ≡ At j → left r im′ ≡ drawn s pen im (rowPixels (pos i) (pos j) row)
-        → left r im′ ≡ drawn s pen im (rowPixels (x .0) (y .0) row)
-    row-inside n ex ax ay d = rw (index-is n x (sym ex ∙ ax), index-is (s .height) y (sym ey ∙ ay)) d
+-- ---- a turn of a cell's loop: the line of row i is drawn, has no bit set, or is above or below the field
+module _ (s : Shape) (pen : Pen) (im : List ℕ) (corner : Pixel) (cell : List ℕ) (i : ℕ) {n : ℕ} {im′ : List ℕ} (e : left n im′ ≡ drawn s pen im (gathered (rowAt corner cell) i)) where
+  pub cell-empty : getD cell i 0 ≡ 0 → left n im′ ≡ drawn s pen im (gathered (rowAt corner cell) (i + 1))
+  cell-empty z = drawn-skip s pen im (rowAt corner cell) i e (row-empty s pen im′ (corner .x .0) (corner .y .0 +ℤ pos (7 - i)) z)
+
+  module _ {yr : Pixels} (ey : yr ≡ pixels (corner .y .0 +ℤ pos (7 - i))) where
+    pub cell-beside : {gy : Index} → gy ≡ indexIn (s .height) yr → gy ≡ Outside → left n im′ ≡ drawn s pen im (gathered (rowAt corner cell) (i + 1))
+    cell-beside g o = drawn-skip s pen im (rowAt corner cell) i e (rw ey at (row-beside s pen im′ (corner .x .0) yr (getD cell i 0) (index-outside (s .height) yr (sym g ∙ o))))
+
+    pub cell-turn : {r : ℕ} {im″ : List ℕ} → left r im″ ≡ drawn s pen im′ (rowPixels (corner .x .0) (yr .0) (getD cell i 0)) → left (n + r) im″ ≡ drawn s pen im (gathered (rowAt corner cell) (i + 1))
+    cell-turn d = drawn-turn s pen im (rowAt corner cell) i e (rw ey at d)
+
+-- ---- a cell by the indices of its corner
+pub cell-inside : (s : Shape) (pen : Pen) (im : List ℕ) (corner : Pixel) (cell : List ℕ) {gx gy : Index} {x y r : ℕ} {im′ : List ℕ}
+    → gx ≡ indexIn (s .width) (corner .x) → gx ≡ At x → gy ≡ indexIn (s .height) (corner .y) → gy ≡ At y → left r im′ ≡ drawn s pen im (cellPixels (pixel (pos x) (pos y)) cell)
+    → left r im′ ≡ drawn s pen im (cellPixels corner cell)
+unfolding cellPixels
+cell-inside s pen im corner cell ex ax ey ay d = rw (index-is (s .width) (corner .x) (sym ex ∙ ax), index-is (s .height) (corner .y) (sym ey ∙ ay)) d

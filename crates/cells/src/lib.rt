@@ -18,8 +18,8 @@ ghost use Rattle.image.specs.Drawn.{drawn};
 ghost use Rattle.cells.specs.Cell.{Near, dot};
 pub use set::BUILT_IN;
 
-// The columns where a row of eight pixels can begin and end in the field.
-const COLUMNS: usize = 505;
+// The last column, and the last line, from where a cell lies in the field from end to end.
+const LAST: usize = 504;
 
 // Where no set is lent, the built-in one serves.
 fn choose<'a>(lent: &'a [u8], built: &'a [u8]) -> &'a [u8]
@@ -122,35 +122,64 @@ fn store_row(image: &mut [u8], row: u8, x: usize, y: usize, ink: Ink) -> u32
     count
 }
 
-// A row from (x, y) to the right. Most have no bit set, or lie in the field from end to end, or above or below it: a test each, and no pixel is asked.
-fn draw_row(image: &mut [u8], row: u8, x: Pixels, y: Pixels, ink: Ink) -> u32
-    requires { ⌜ (length (now image) ≡ imageBytes) × Near x × (ink .value < inkShape ink .base) ⌝ }
-    ensures { λ r. ⌜ left r (now (image .exit)) ≡ drawn (inkShape ink) (inkPen ink) (now (image .entry)) (rowPixels (x .0) (y .0) row) ⌝ }
-{
-    if row == 0 {
-        return 0;
-    }
-    let Index::At(line) = units::index_in(image::HEIGHT, y) else {
-        return 0;
-    };
-    let Index::At(column) = units::index_in(COLUMNS, x) else {
-        return plot_row(image, row, x, y, ink);
-    };
-    store_row(image, row, column, line, ink)
-}
-
-// A cell by its lower left corner, the top row first: answers how many pixels were stored.
-pub fn draw(image: &mut [u8], cell: &[u8], corner: Pixel, ink: Ink) -> u32
+// A cell that may lie across an edge of the field: a row with no bit set, above the field or below it has no pixel to ask.
+fn plot_cell(image: &mut [u8], cell: &[u8], corner: Pixel, ink: Ink) -> u32
     requires { ⌜ (length (now image) ≡ imageBytes) × (length (now cell) ≡ 8) × Near (corner .x) × Near (corner .y) × (ink .value < inkShape ink .base) ⌝ }
     ensures { λ r. ⌜ left r (now (image .exit)) ≡ drawn (inkShape ink) (inkPen ink) (now (image .entry)) (cellPixels corner (now (cell .entry))) ⌝ }
 {
     let mut i = 0;
     let mut count = 0;
     while i < 8 {
+        let row = cell[i];
         let above = (7 - i) as u32;
         let y = further(corner.y, above);
-        count += draw_row(image, cell[i], corner.x, y, ink);
         i += 1;
+        if row == 0 {
+            continue;
+        }
+        let Index::At(_) = units::index_in(image::HEIGHT, y) else {
+            continue;
+        };
+        count += plot_row(image, row, corner.x, y, ink);
     }
     count
+}
+
+// A cell that lies in the field from end to end.
+fn store_cell(image: &mut [u8], cell: &[u8], x: usize, y: usize, ink: Ink) -> u32
+    requires { ⌜ (length (now image) ≡ imageBytes) × (length (now cell) ≡ 8) × (x + 7 < inkShape ink .width) × (y + 7 < inkShape ink .height) × (ink .value < inkShape ink .base) ⌝ }
+    ensures { λ r. ⌜ left r (now (image .exit)) ≡ drawn (inkShape ink) (inkPen ink) (now (image .entry)) (cellPixels (pixel (pos x) (pos y)) (now (cell .entry))) ⌝ }
+{
+    let mut i = 0;
+    let mut count = 0;
+    while i < 8 {
+        let row = cell[i];
+        let above = 7 - i;
+        i += 1;
+        if row == 0 {
+            continue;
+        }
+        count += store_row(image, row, x, y + above, ink);
+    }
+    count
+}
+
+// A cell by its lower left corner, the top row first: answers how many pixels were stored. Whether it lies in the field from end to end is asked once.
+pub fn draw(image: &mut [u8], cell: &[u8], corner: Pixel, ink: Ink) -> u32
+    requires { ⌜ (length (now image) ≡ imageBytes) × (length (now cell) ≡ 8) × Near (corner .x) × Near (corner .y) × (ink .value < inkShape ink .base) ⌝ }
+    ensures { λ r. ⌜ left r (now (image .exit)) ≡ drawn (inkShape ink) (inkPen ink) (now (image .entry)) (cellPixels corner (now (cell .entry))) ⌝ }
+{
+    let Index::At(x) = units::index_in(image::WIDTH, corner.x) else {
+        return plot_cell(image, cell, corner, ink);
+    };
+    let Index::At(y) = units::index_in(image::HEIGHT, corner.y) else {
+        return plot_cell(image, cell, corner, ink);
+    };
+    if LAST < x {
+        return plot_cell(image, cell, corner, ink);
+    }
+    if LAST < y {
+        return plot_cell(image, cell, corner, ink);
+    }
+    store_cell(image, cell, x, y, ink)
 }

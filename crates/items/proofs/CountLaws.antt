@@ -1,17 +1,17 @@
 -- How many pixels a step stores at most, so that a run's count of them fits.
-use Prim.Native.Nat.{ℕ, zero, suc, _*_, _≤_}
+use Prim.Native.Nat.{ℕ, _≤_}
 use mathlib.Core.Bool.{Bool, true, false, _&&_}
 use mathlib.Core.Path.{_≡_}
-use mathlib.Core.List.{List, [], _∷_}
+use mathlib.Core.List.{List, []}
 use native.Mathlib.Omega.{arith}
 use lib.ListN.{length, length-append}
-use lib.IntN.{ℤ, pos}
+use lib.IntN.{pos}
 use borrow.Author.Tests.{not-false}
 use Rattle.definition.specs.Choice.{pick}
 use Rattle.definition.specs.Units.{units, moved}
-use Rattle.definition.specs.Image.{Shape, pixelAt, inField, inside}
+use Rattle.definition.specs.Image.{pixelAt, inside}
 use Rattle.definition.specs.Words.{long}
-use Rattle.definition.specs.Characters.{isSet, cellOf, gathered, rowPixels, cellPixels}
+use Rattle.definition.specs.Characters.{cellOf}
 use Rattle.definition.specs.Machine.{shapeOf, inRange, ranged}
 use Rattle.definition.specs.Step.{Given, wayOf, itemWay, advance, characterAt, leaves, vectorBy, itemPixels, storedOf}
 use Rattle.definition.specs.Step.Change.{Move}
@@ -22,18 +22,11 @@ use Rattle.definition.specs.declared.Item.{Item}
 use Rattle.definition.specs.declared.Item.the-variants.{ShortVector, LongVector, AbsolutePoint, GraphX, GraphY, RelativePoint, Characters}
 use Rattle.definition.specs.declared.Instruction.{Instruction}
 use Rattle.definition.specs.declared.Instruction.the-variants.{Does, Draws}
+use Rattle.image.proofs.DrawnLaws.{inside-shorter}
+use Rattle.image.proofs.CellCounts.{cell-few}
 use Rattle.vector.proofs.ReachLaws.{reaches, vector-short}
 use Rattle.items.specs.Goes.{kept}
 use Rattle.definition.proofs.StepLaws.{ranges}
-
-inside-shorter : (s : Shape) (ps : List Pixel) → length (inside s ps) ≤ length ps
-unfolding inside
-inside-shorter s [] = omega arith
-inside-shorter s (p ∷ ps) = go (inField s p) (inside-shorter s ps)
-  where
-    go : (t : Bool) → length (inside s ps) ≤ length ps → length (pick t (p ∷ inside s ps) (inside s ps)) ≤ length (p ∷ ps)
-    go true h = omega arith
-    go false h = omega arith
 
 pub kept-shorter : (m : Machine) (lit : Bool) (ps : List Pixel) → length (kept m lit ps) ≤ length ps
 unfolding kept
@@ -42,24 +35,6 @@ kept-shorter m lit ps = go (lit && m .write)
     go : (t : Bool) → length (pick t (inside (shapeOf m) ps) []) ≤ length ps
     go true = inside-shorter (shapeOf m) ps
     go false = omega arith
-
--- a character has at most 64 pixels
-gathered-few : (f : ℕ → List Pixel) (n : ℕ) → ((k : ℕ) → length (f k) ≤ n) → (k : ℕ) → length (gathered f k) ≤ n * k
-unfolding gathered
-gathered-few f n h zero = omega arith
-gathered-few f n h (suc k) = omega (arith, length-append (gathered f k) (f k), gathered-few f n h k, h k)
-
-bit-few : (on : Bool) (p : Pixel) → length (pick on (p ∷ []) []) ≤ 1
-bit-few true p = omega arith
-bit-few false p = omega arith
-
-row-few : (x y : ℤ) (row : ℕ) → length (rowPixels x y row) ≤ 8
-unfolding rowPixels
-row-few x y row = gathered-few _ 1 (λ k. bit-few (isSet row k) _) 8
-
-pub cell-few : (corner : Pixel) (cell : List ℕ) → length (cellPixels corner cell) ≤ 64
-unfolding cellPixels
-cell-few corner cell = gathered-few _ 8 (λ r. row-few _ _ _) 8
 
 module _ (g : Given) (m : Machine) (h : ranged m ≡ true) where
   vector-few : (dx dy : Units) → leaves (m .x) (Move dx) ≡ false → leaves (m .y) (Move dy) ≡ false → length (vectorBy m dx dy) ≤ 4096

@@ -1,89 +1,104 @@
-use Prim.Native.Nat.{_-_, _*_, _≤_}
-use mathlib.Core.Path.{_≡_, refl, _∙_}
 use native.Mathlib.Omega.{arith}
-use lib.ListN.{length}
-use Rattle.definition.specs.Image.{inkShape, inkPen, left}
-use Rattle.definition.specs.Characters.{gathered, cellPixels}
-use Rattle.image.specs.Drawn.{drawn}
-use Rattle.cells.specs.Cell.{rowAt}
-use Rattle.cells.proofs.DrawLaws.{drawn-none, cell-turn, row-at-most}
+use Rattle.cells.proofs.DrawLaws.{cell-inside}
+use borrow.Author.Needs.{needs}
 use Rattle.cells.proofs.draw.Statement.{statement}
 use Rattle.cells.proofs.draw.Tie as tie
 
-abbrev Inv-loop : tie.InvT-loop
-Inv-loop image₀ cell corner ink i₀ count₀ image i count =
-    (i ≤ 8) × (count ≤ 8 * i) × (length image ≡ length image₀) × (left count image ≡ drawn (inkShape ink) (inkPen ink) image₀ (gathered (rowAt corner cell) i))
+index-in-requires : tie.Need-index-in-requires
+index-in-requires c κs = search needs
 
-abbrev μ-loop : tie.MeasureT-loop
-μ-loop image₀ cell corner ink i₀ count₀ image i count = 8 - i
+enum-known-x : tie.Need-enum-known-x
+enum-known-x c = search needs
 
-at-most : (c : tie.After-slice-known2 Inv-loop μ-loop) → c .before .before .draw-row .result ≤ 8
-at-most c = row-at-most _ _ _ _ _ _ (c .before .before .draw-row .ensures)
+enum-told : tie.Need-enum-told
+enum-told c = search needs
 
-loop-holds : tie.Need-loop-holds Inv-loop μ-loop
-unfolding gathered
-loop-holds c = (omega arith, omega arith, refl, drawn-none _ _ _)
+plot-cell-requires : tie.Need-plot-cell-requires
+plot-cell-requires c κs = search needs
 
-sub-above : tie.Need-sub-above Inv-loop μ-loop
-sub-above c = omega arith
+same-length : tie.Need-same-length
+same-length c = search needs
 
-cast-above : tie.Need-cast-above Inv-loop μ-loop
-cast-above c = omega arith
+returns : tie.Need-returns
+returns c = search needs
 
-further-requires : tie.Need-further-requires Inv-loop μ-loop
-further-requires c κs = (c .before .before .before .before .pre .3, omega (arith, c .loop-test .taken))
+index-in-requires-2 : tie.Need-index-in-requires-2
+index-in-requires-2 c κs = search needs
 
-shared-slice-read-draw-row : tie.Need-shared-slice-read-draw-row Inv-loop μ-loop
-shared-slice-read-draw-row c = omega arith
+enum-known-y : tie.Need-enum-known-y
+enum-known-y c = search needs
 
-draw-row-requires : tie.Need-draw-row-requires Inv-loop μ-loop
-draw-row-requires c κs =
-    let l = c .before .before .before .before in
-    let h = l .before .before .before .pre in
-    (l .loop .inv .2 ∙ h .0, h .2, h .4)
+enum-told-2 : tie.Need-enum-told-2
+enum-told-2 c = search needs
 
-add-count : tie.Need-add-count Inv-loop μ-loop
-add-count c = omega (arith, at-most c)
+plot-cell-requires-2 : tie.Need-plot-cell-requires-2
+plot-cell-requires-2 c κs = search needs
 
-add-i : tie.Need-add-i Inv-loop μ-loop
-add-i c = omega arith
+same-length-2 : tie.Need-same-length-2
+same-length-2 c = search needs
 
-loop-less : tie.Need-loop-less Inv-loop μ-loop
-loop-less c = omega arith
+returns-2 : tie.Need-returns-2
+returns-2 c = search needs
 
-loop-again : tie.Need-loop-again Inv-loop μ-loop
-loop-again c =
-    let d = c .before .before in
-    let l = d .before .before .before .before .before in
-    let a = l .before .before .before .args in
-    let t = cell-turn _ _ _ (a .corner) (a .cell .now) (l .loop .i) (l .loop .inv .3) (d .before .before .before .further .ensures) (d .draw-row .ensures) in
-    (omega arith, omega (arith, at-most c), d .draw-row .kept .0 ∙ l .loop .inv .2, t)
+plot-cell-requires-3 : tie.Need-plot-cell-requires-3
+plot-cell-requires-3 c κs = search needs
 
-same-length : tie.Need-same-length Inv-loop μ-loop
-same-length c = c .before .loop .inv .2
+same-length-3 : tie.Need-same-length-3
+same-length-3 c = search needs
 
-returns : tie.Need-returns Inv-loop μ-loop
-unfolding cellPixels
-returns c =
+returns-3 : tie.Need-returns-3
+returns-3 c = search needs
+
+plot-cell-requires-4 : tie.Need-plot-cell-requires-4
+plot-cell-requires-4 c κs = search needs
+
+same-length-4 : tie.Need-same-length-4
+same-length-4 c = search needs
+
+returns-4 : tie.Need-returns-4
+returns-4 c = search needs
+
+store-cell-requires : tie.Need-store-cell-requires
+store-cell-requires c κs =
     let l = c .before in
-    let e : l .loop .i ≡ 8 = omega arith in
-    rw e at (l .loop .inv .3)
+    let h = l .before .before .before .before .before .before .before .before .before .before .before .before .pre in
+    (h .0, h .1, omega (arith, l .before .if1 .left), omega (arith, l .if2 .left), h .4)
+
+same-length-5 : tie.Need-same-length-5
+same-length-5 c = search needs
+
+returns-5 : tie.Need-returns-5
+returns-5 c =
+    let p = c .before .before in
+    let y = p .before .before .before .before .before in
+    let gy = y .before .before in
+    let x = gy .before .before in
+    let gx = x .before .before in
+    let a = gx .before .before .before .args in
+    cell-inside _ _ _ (a .corner) (a .cell .now) (gx .index-in .ensures) (x .x .given .1) (gy .index-in2 .ensures) (y .y .given .1) (p .store-cell .ensures)
 
 pub draw-spec : {M : Type 1} → statement M
 draw-spec =
     tie.close
     (tie.spec
-    Inv-loop
-    μ-loop
-    loop-holds
-    sub-above
-    cast-above
-    further-requires
-    shared-slice-read-draw-row
-    draw-row-requires
-    add-count
-    add-i
-    loop-less
-    loop-again
+    index-in-requires
+    enum-known-x
+    enum-told
+    plot-cell-requires
     same-length
-    returns)
+    returns
+    index-in-requires-2
+    enum-known-y
+    enum-told-2
+    plot-cell-requires-2
+    same-length-2
+    returns-2
+    plot-cell-requires-3
+    same-length-3
+    returns-3
+    plot-cell-requires-4
+    same-length-4
+    returns-4
+    store-cell-requires
+    same-length-5
+    returns-5)
