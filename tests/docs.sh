@@ -51,11 +51,11 @@ done <"$work/promises"
 # `crate::function`: in that crate's source; and each that is public is named
 sed -nE 's/^([a-z]+)::([a-z_0-9]+)$/\1 \2/p' "$work/named" >"$work/functions"
 while read -r crate function; do
-    grep -Eq "^(pub )?(extern \"C\" )?fn $function\(" "crates/$crate/src/lib.rt" 2>/dev/null ||
+    grep -Eq "^(pub )?(extern \"C\" )?fn $function[<(]" "crates/$crate/src/lib.rt" 2>/dev/null ||
         { echo "$doc names the function $crate::$function, which is not there"; failed=1; }
 done <"$work/functions"
 for crate in units image file words vector cells outcome items letters orders machine run doors still display numbers host line text screen input; do
-    sed -nE "s/^pub (extern \"C\" )?fn ([a-z_0-9]+)\(.*/$crate::\2/p" "crates/$crate/src/lib.rt"
+    sed -nE "s/^pub (extern \"C\" )?fn ([a-z_0-9]+)[<(].*/$crate::\2/p" "crates/$crate/src/lib.rt"
 done >"$work/public"
 while read -r function; do
     grep -qx -e "$function" "$work/named" || { echo "$doc does not name the function $function"; failed=1; }
