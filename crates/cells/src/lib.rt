@@ -154,12 +154,10 @@ fn store_cell(image: &mut [u8], cell: &[u8], x: usize, y: usize, ink: Ink) -> u3
     let mut count = 0;
     while i < 8 {
         let row = cell[i];
-        let above = 7 - i;
-        i += 1;
-        if row == 0 {
-            continue;
+        if row != 0 {
+            count += store_row(image, row, x, y + (7 - i), ink);
         }
-        count += store_row(image, row, x, y + above, ink);
+        i += 1;
     }
     count
 }

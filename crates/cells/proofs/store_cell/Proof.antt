@@ -1,5 +1,6 @@
 use Prim.Native.Nat.{_-_, _*_, _≤_}
 use mathlib.Core.Path.{_≡_, refl, _∙_}
+use mathlib.Core.Logic.{⊎-elim}
 use native.Mathlib.Omega.{arith}
 use lib.IntN.{pos}
 use lib.ListN.{length}
@@ -19,9 +20,6 @@ Inv-loop image₀ cell x y ink i₀ count₀ image i count =
 abbrev μ-loop : tie.MeasureT-loop
 μ-loop image₀ cell x y ink i₀ count₀ image i count = 8 - i
 
-at-most : (c : tie.After-slice-known2 Inv-loop μ-loop) → c .before .before .store-row .result ≤ 8
-at-most c = row-at-most _ _ _ _ _ _ (c .before .before .store-row .ensures)
-
 loop-holds : tie.Need-loop-holds Inv-loop μ-loop
 unfolding gathered
 loop-holds c = (omega arith, omega arith, refl, drawn-none _ _ _)
@@ -29,20 +27,8 @@ loop-holds c = (omega arith, omega arith, refl, drawn-none _ _ _)
 shared-slice-read-row : tie.Need-shared-slice-read-row Inv-loop μ-loop
 shared-slice-read-row c = omega arith
 
-sub-above : tie.Need-sub-above Inv-loop μ-loop
-sub-above c = omega arith
-
-add-i : tie.Need-add-i Inv-loop μ-loop
-add-i c = omega arith
-
-loop-less : tie.Need-loop-less Inv-loop μ-loop
-loop-less c = omega arith
-
-loop-again : tie.Need-loop-again Inv-loop μ-loop
-loop-again c =
-    let l = c .before .before .before in
-    let a = l .before .before .before .args in
-    (omega arith, omega arith, l .loop .inv .2, cell-empty _ _ _ (pixel (pos (a .x)) (pos (a .y))) (a .cell .now) (l .loop .i) (l .loop .inv .3) (c .if1 .taken))
+sub-store-row : tie.Need-sub-store-row Inv-loop μ-loop
+sub-store-row c = omega arith
 
 add-store-row : tie.Need-add-store-row Inv-loop μ-loop
 add-store-row c = omega arith
@@ -54,18 +40,26 @@ store-row-requires c κs =
     (l .loop .inv .2 ∙ h .0, h .2, omega (arith, h .3), h .4)
 
 add-count : tie.Need-add-count Inv-loop μ-loop
-add-count c = omega (arith, at-most c)
+add-count c = omega (arith, row-at-most _ _ _ _ _ _ (c .before .before .store-row .ensures))
 
-loop-less-2 : tie.Need-loop-less-2 Inv-loop μ-loop
-loop-less-2 c = omega arith
+add-i : tie.Need-add-i Inv-loop μ-loop
+add-i c = omega arith
 
-loop-again-2 : tie.Need-loop-again-2 Inv-loop μ-loop
-loop-again-2 c =
-    let p = c .before .before in
-    let l = p .before .before .before .before .before in
+loop-less : tie.Need-loop-less Inv-loop μ-loop
+loop-less c = omega arith
+
+loop-again : tie.Need-loop-again Inv-loop μ-loop
+loop-again c =
+    let l = c .before .before .before in
     let a = l .before .before .before .args in
-    let t = cell-turn _ _ _ (pixel (pos (a .x)) (pos (a .y))) (a .cell .now) (l .loop .i) (l .loop .inv .3) refl (p .store-row .ensures) in
-    (omega arith, omega (arith, at-most c), p .store-row .kept .0 ∙ l .loop .inv .2, t)
+    let corner = pixel (pos (a .x)) (pos (a .y)) in
+    ⊎-elim
+    (λ w.
+    let most = row-at-most _ _ _ _ _ _ (w .2 .ensures) in
+    let t = cell-turn _ _ _ corner (a .cell .now) (l .loop .i) (l .loop .inv .3) refl (w .2 .ensures) in
+    rw (w .5, w .6) (omega arith, omega arith, w .2 .kept .0 ∙ l .loop .inv .2, t))
+    (λ w. rw (w .1, w .2) (omega arith, omega arith, l .loop .inv .2, cell-empty _ _ _ corner (a .cell .now) (l .loop .i) (l .loop .inv .3) (w .0 .left)))
+    (c .if1 .came)
 
 same-length : tie.Need-same-length Inv-loop μ-loop
 same-length c = c .before .loop .inv .2
@@ -85,14 +79,12 @@ store-cell-spec =
     μ-loop
     loop-holds
     shared-slice-read-row
-    sub-above
-    add-i
-    loop-less
-    loop-again
+    sub-store-row
     add-store-row
     store-row-requires
     add-count
-    loop-less-2
-    loop-again-2
+    add-i
+    loop-less
+    loop-again
     same-length
     returns)
