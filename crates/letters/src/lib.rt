@@ -33,8 +33,8 @@ fn past(x: Units) -> Units
     Units(x.0 + ADVANCE)
 }
 
-// One character, the lower left corner of its cell at the pixel of (x, Y).
-fn letter<'a>(
+// One character by whichever of two sets serves, the lower left corner of its cell at the pixel of (x, Y).
+fn letter_of<'a>(
     m: Machine,
     image: &mut [u8],
     lent: &'a [u8],
@@ -50,37 +50,20 @@ fn letter<'a>(
     cells::draw(image, cell, corner, Ink { value: m.value })
 }
 
-// The first character at the position, the second where the first has led.
-fn pair<'a>(
-    m: Machine,
-    image: &mut [u8],
-    lent: &'a [u8],
-    built: &'a [u8],
-    first: u8,
-    second: u8,
-) -> u32
-    requires { ⌜ (length (now image) ≡ imageBytes) × (ranged m ≡ true) × (inRange (moved (m .x) (units (pos advance))) ≡ true) × (isCode first ≡ true) × (isCode second ≡ true) × (length (chosen (now lent) (now built)) ≡ setBytes) ⌝ }
-    ensures { λ r. ⌜ left r (now (image .exit)) ≡ drawn (shapeOf m) (penOf m) (now (image .entry)) (pairPixels (chosen (now (lent .entry)) (now (built .entry))) m first second) ⌝ }
-{
-    let next = past(m.x);
-    let stores = letter(m, image, lent, built, first, m.x);
-    stores + letter(m, image, lent, built, second, next)
-}
-
-// By the set that serves. The built-in one is laid out, which is slow, only where it is that one.
-fn served(m: Machine, image: &mut [u8], lent: &[u8], first: u8, second: u8) -> u32
-    requires { ⌜ (length (now image) ≡ imageBytes) × (ranged m ≡ true) × (inRange (moved (m .x) (units (pos advance))) ≡ true) × (isCode first ≡ true) × (isCode second ≡ true) × (length (chosen (now lent) builtIn) ≡ setBytes) ⌝ }
-    ensures { λ r. ⌜ left r (now (image .exit)) ≡ drawn (shapeOf m) (penOf m) (now (image .entry)) (pairPixels (chosen (now (lent .entry)) builtIn) m first second) ⌝ }
+// The same by the lent set, or where none is lent by the built-in one, which is laid out only then. A word calls this twice, so the compiler leaves it a
+// function of its own: in place of a call, every run would begin by loading that set (docs/PERFORMANCE.md).
+fn letter(m: Machine, image: &mut [u8], lent: &[u8], code: u8, x: Units) -> u32
+    requires { ⌜ (length (now image) ≡ imageBytes) × (ranged m ≡ true) × (inRange x ≡ true) × (isCode code ≡ true) × (length (chosen (now lent) builtIn) ≡ setBytes) ⌝ }
+    ensures { λ r. ⌜ left r (now (image .exit)) ≡ drawn (shapeOf m) (penOf m) (now (image .entry)) (characterAt (chosen (now (lent .entry)) builtIn) m x (m .y) code) ⌝ }
 {
     if lent.len() != 0 {
-        return pair(m, image, lent, lent, first, second);
+        return letter_of(m, image, lent, lent, code, x);
     }
     let built = cells::BUILT_IN;
-    pair(m, image, lent, &built, first, second)
+    letter_of(m, image, lent, &built, code, x)
 }
 
-// Nothing is drawn while write is off. Two calls of `served`, so that the compiler leaves it a function of its own: in their place, every run would begin by
-// loading the built-in set (docs/PERFORMANCE.md).
+// The first character at the position, the second where the first has led. Nothing is drawn while write is off.
 fn both(m: Machine, image: &mut [u8], lent: &[u8], first: u8, second: u8) -> u32
     requires { ⌜ (length (now image) ≡ imageBytes) × (ranged m ≡ true) × (inRange (moved (m .x) (units (pos advance))) ≡ true) × (isCode first ≡ true) × (isCode second ≡ true) × (length (chosen (now lent) builtIn) ≡ setBytes) ⌝ }
     ensures { λ r. ⌜ left r (now (image .exit)) ≡ lights m true (now (image .entry)) (pairPixels (chosen (now (lent .entry)) builtIn) m first second) ⌝ }
@@ -88,10 +71,9 @@ fn both(m: Machine, image: &mut [u8], lent: &[u8], first: u8, second: u8) -> u32
     if !m.write {
         return 0;
     }
-    if lent.len() == 0 {
-        return served(m, image, lent, first, second);
-    }
-    served(m, image, lent, first, second)
+    let next = past(m.x);
+    let stores = letter(m, image, lent, first, m.x);
+    stores + letter(m, image, lent, second, next)
 }
 
 // X goes past both characters, or out of its range, and then neither is drawn.

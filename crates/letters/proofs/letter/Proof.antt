@@ -1,35 +1,48 @@
 use mathlib.Core.Path.{ap, _∙_}
 use lib.ListN.{length}
-use Rattle.definition.proofs.StepLaws.{ranges}
-use Rattle.cells.proofs.CellLaws.{cell-length}
-use Rattle.letters.proofs.LetterLaws.{corner-near, letter-is}
+use Rattle.definition.specs.BuiltIn.{builtIn}
+use Rattle.letters.proofs.LetterLaws.{served}
 use borrow.Author.Needs.{needs}
 use Rattle.letters.proofs.letter.Statement.{statement}
 use Rattle.letters.proofs.letter.Tie as tie
 
-cell-of-requires : tie.Need-cell-of-requires
-cell-of-requires c κs = let h = c .before .before .before .pre in (h .3, h .4)
-
-pixel-at-requires : tie.Need-pixel-at-requires
-pixel-at-requires c κs = search needs
-
-draw-requires : tie.Need-draw-requires
-draw-requires c κs =
-    let p = c .before in
-    let k = p .before in
-    let h = k .before .before .before .before .pre in
-    let m = ranges _ .0 (h .1) in
-    let n = corner-near _ _ _ (p .pixel-at .ensures) (h .2) (m .y) in
-    (h .0, ap length (k .cell-of .ensures) ∙ cell-length _ _ (h .3) (h .4), n .0, n .1, m .value)
+letter-of-requires : tie.Need-letter-of-requires
+letter-of-requires c κs = let s = c .before .before .before .before in
+    let h = s .pre in
+    let lent = s .args .lent .now in
+    (h .0, h .1, h .2, h .3, ap length (served lent lent builtIn (c .before .if1 .taken)) ∙ h .4)
 
 same-length : tie.Need-same-length
 same-length c = search needs
 
 returns : tie.Need-returns
-returns c =
-    let d = c .before .before in
-    let p = d .before .before in
-    letter-is (p .before .before .before .before .before .args .m) _ _ _ _ (p .pixel-at .ensures) (p .before .cell-of .ensures) (d .draw .ensures)
+returns c = let p = c .before .before in
+    let n = p .before .before in
+    let lent = n .before .before .before .args .lent .now in
+    rw (← served lent lent builtIn (n .if1 .taken)) (p .letter-of .ensures)
+
+slice-aggregate-letter-of : tie.Need-slice-aggregate-letter-of
+slice-aggregate-letter-of c = search needs
+
+letter-of-requires-2 : tie.Need-letter-of-requires-2
+unfolding builtIn
+letter-of-requires-2 c κs = c .before .before .before .before .before .pre
+
+same-length-2 : tie.Need-same-length-2
+same-length-2 c = search needs
+
+returns-2 : tie.Need-returns-2
+unfolding builtIn
+returns-2 c = c .before .before .letter-of2 .ensures
 
 pub letter-spec : {M : Type 1} → statement M
-letter-spec = tie.close (tie.spec cell-of-requires pixel-at-requires draw-requires same-length returns)
+letter-spec =
+    tie.close
+    (tie.spec
+    letter-of-requires
+    same-length
+    returns
+    slice-aggregate-letter-of
+    letter-of-requires-2
+    same-length-2
+    returns-2)
