@@ -15,6 +15,7 @@ use Rattle.definition.specs.Image.{Shape, Pen, below, inField, inside, store, s
 use Rattle.definition.specs.Characters.{isSet, gathered, rowPixels, cellPixels}
 use Rattle.definition.specs.declared.Pixels.{Pixels}
 use Rattle.definition.specs.declared.Pixel.{Pixel}
+use Rattle.definition.proofs.Exactly.{apart}
 use Rattle.definition.proofs.Plain.{both-true}
 use Rattle.definition.proofs.StoreLaws.{stores-append, inside-append}
 use Rattle.units.specs.Answers.{indexIn}
@@ -101,6 +102,35 @@ below-is n x h =
     let r : ltZ (pos x) (pos n) ≡ true = omega whole in
     rw (l, r)
 
+-- ---- the index of a field in a larger one: outside of that, inside of both, and between the two
+narrower : (n k : ℕ) (z : ℤ) → k ≤ n → below n z ≡ false → below k z ≡ false
+narrower n k z h f = go (below k z) refl
+  where
+    go : (t : Bool) → below k z ≡ t → below k z ≡ false
+    go true e =
+        let b = both-true {s = leZ (pos 0) z} {t = ltZ z (pos k)} .0 e in
+        let r : ltZ z (pos n) ≡ true = omega whole in
+        let w : below n z ≡ true = rw (b .0, r) in
+        absurd (apart (sym w ∙ f))
+    go false e = e
+
+module _ (n k : ℕ) (p : Pixels) {g : Index} (e : g ≡ indexIn n p) where
+  pub outside-both : k ≤ n → g ≡ Outside → Outside ≡ indexIn k p
+  unfolding indexIn
+  outside-both h o = rw (narrower n k (p .0) h (index-outside n p (sym e ∙ o)))
+
+  module _ {i : ℕ} (a : g ≡ At i) where
+    pub inside-both : i < k → At i ≡ indexIn k p
+    unfolding indexIn
+    inside-both h = rw (index-is n p (sym e ∙ a), below-is k i h)
+
+    pub between : k ≤ i → Outside ≡ indexIn k p
+    unfolding indexIn
+    between h =
+        let l : leZ (pos 0) (pos i) ≡ true = omega whole in
+        let r : ltZ (pos i) (pos k) ≡ false = omega whole in
+        rw (index-is n p (sym e ∙ a), l, r)
+
 pub bit-stored : (s : Shape) (pen : Pen) (im : List ℕ) (x y : ℕ) {on : Bool} {im′ : List ℕ} → on ≡ true → x < s .width → y < s .height → im′ ≡ store s pen im x y
     → left 1 im′ ≡ drawn s pen im (dot on (pixel (pos x) (pos y)))
 unfolding dot drawn inside inField stores
@@ -129,8 +159,8 @@ module _ (s : Shape) (pen : Pen) (im : List ℕ) (corner : Pixel) (cell : List �
     cell-turn d = drawn-turn s pen im (rowAt corner cell) i e (rw ey at d)
 
 -- ---- a cell by the indices of its corner
-pub cell-inside : (s : Shape) (pen : Pen) (im : List ℕ) (corner : Pixel) (cell : List ℕ) {gx gy : Index} {x y r : ℕ} {im′ : List ℕ}
-    → gx ≡ indexIn (s .width) (corner .x) → gx ≡ At x → gy ≡ indexIn (s .height) (corner .y) → gy ≡ At y → left r im′ ≡ drawn s pen im (cellPixels (pixel (pos x) (pos y)) cell)
+pub cell-inside : (s : Shape) (pen : Pen) (im : List ℕ) (corner : Pixel) (cell : List ℕ) (n : ℕ) {gx gy : Index} {x y r : ℕ} {im′ : List ℕ}
+    → gx ≡ indexIn n (corner .x) → gx ≡ At x → gy ≡ indexIn n (corner .y) → gy ≡ At y → left r im′ ≡ drawn s pen im (cellPixels (pixel (pos x) (pos y)) cell)
     → left r im′ ≡ drawn s pen im (cellPixels corner cell)
 unfolding cellPixels
-cell-inside s pen im corner cell ex ax ey ay d = rw (index-is (s .width) (corner .x) (sym ex ∙ ax), index-is (s .height) (corner .y) (sym ey ∙ ay)) d
+cell-inside s pen im corner cell n ex ax ey ay d = rw (index-is n (corner .x) (sym ex ∙ ax), index-is n (corner .y) (sym ey ∙ ay)) d

@@ -14,6 +14,7 @@ ghost use Rattle.definition.specs.Units.{pixels, pixel};
 ghost use Rattle.definition.specs.Image.{imageBytes, inkShape, inkPen, left};
 ghost use Rattle.definition.specs.Words.{isCode};
 ghost use Rattle.definition.specs.Characters.{setBytes, chosen, cellOf, isSet, rowPixels, cellPixels};
+ghost use Rattle.units.specs.Answers.{indexIn};
 ghost use Rattle.image.specs.Drawn.{drawn};
 ghost use Rattle.cells.specs.Cell.{Near, dot};
 pub use set::BUILT_IN;
@@ -162,22 +163,29 @@ fn store_cell(image: &mut [u8], cell: &[u8], x: usize, y: usize, ink: Ink) -> u3
     count
 }
 
+// The index of a column, or of a line, from where a cell lies in the field.
+fn start_of(p: Pixels) -> Index
+    ensures { λ r. ⌜ r ≡ indexIn 505 p ⌝ }
+{
+    let Index::At(i) = units::index_in(image::WIDTH, p) else {
+        return Index::Outside;
+    };
+    if LAST < i {
+        return Index::Outside;
+    }
+    Index::At(i)
+}
+
 // A cell by its lower left corner, the top row first: answers how many pixels were stored. Whether it lies in the field from end to end is asked once.
 pub fn draw(image: &mut [u8], cell: &[u8], corner: Pixel, ink: Ink) -> u32
     requires { ⌜ (length (now image) ≡ imageBytes) × (length (now cell) ≡ 8) × Near (corner .x) × Near (corner .y) × (ink .value < inkShape ink .base) ⌝ }
     ensures { λ r. ⌜ left r (now (image .exit)) ≡ drawn (inkShape ink) (inkPen ink) (now (image .entry)) (cellPixels corner (now (cell .entry))) ⌝ }
 {
-    let Index::At(x) = units::index_in(image::WIDTH, corner.x) else {
+    let Index::At(x) = start_of(corner.x) else {
         return plot_cell(image, cell, corner, ink);
     };
-    let Index::At(y) = units::index_in(image::HEIGHT, corner.y) else {
+    let Index::At(y) = start_of(corner.y) else {
         return plot_cell(image, cell, corner, ink);
     };
-    if LAST < x {
-        return plot_cell(image, cell, corner, ink);
-    }
-    if LAST < y {
-        return plot_cell(image, cell, corner, ink);
-    }
     store_cell(image, cell, x, y, ink)
 }
