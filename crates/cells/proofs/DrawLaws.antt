@@ -1,23 +1,23 @@
 -- Laws of drawing one list of pixels after another: a bit, a turn of a loop, a row, and how many pixels are stored at most.
-use Prim.Native.Nat.{ℕ, zero, suc, _+_, _-_, _*_, _<_, _≤_}
+use Prim.Native.Nat.{ℕ, zero, suc, _+_, _-_, _<_, _≤_}
 use mathlib.Core.Bool.{Bool, true, false, _&&_}
-use mathlib.Core.Path.{_≡_, refl, sym, ap, _∙_}
-use mathlib.Core.List.{List, [], _∷_, _++_}
+use mathlib.Core.Path.{_≡_, refl, sym, _∙_}
+use mathlib.Core.List.{List, [], _∷_}
 use native.Mathlib.Omega.{arith}
 use native.Mathlib.Numerals.{add-one}
-use lib.ListN.{length, getD, length-append}
+use lib.ListN.{getD}
 use lib.IntN.{ℤ, pos, _+ℤ_}
 use lib.Signed.{leZ, ltZ}
 use Rattle.whole.specs.Parts.{whole, abs}
 use Rattle.definition.specs.Choice.{pick}
 use Rattle.definition.specs.Units.{pixels, pixel}
-use Rattle.definition.specs.Image.{Shape, Pen, below, inField, inside, store, stores, Left, left}
+use Rattle.definition.specs.Image.{Shape, Pen, below, inField, inside, store, stores, left}
 use Rattle.definition.specs.Characters.{isSet, gathered, rowPixels, cellPixels}
 use Rattle.definition.specs.declared.Pixels.{Pixels}
 use Rattle.definition.specs.declared.Pixel.{Pixel}
 use Rattle.definition.proofs.Exactly.{apart}
 use Rattle.definition.proofs.Plain.{both-true}
-use Rattle.definition.proofs.StoreLaws.{stores-append, inside-append}
+use Rattle.definition.proofs.StoreLaws.{inside-append}
 use Rattle.units.specs.Answers.{indexIn}
 use Rattle.units.specs.declared.Index.{Index}
 use Rattle.units.specs.declared.Index.the-variants.{At, Outside}
