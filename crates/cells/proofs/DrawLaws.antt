@@ -23,7 +23,7 @@ use Rattle.units.specs.declared.Index.{Index}
 use Rattle.units.specs.declared.Index.the-variants.{At, Outside}
 use Rattle.units.proofs.AnswerLaws.{index-at, index-outside}
 use Rattle.image.specs.Drawn.{drawn}
-pub use Rattle.image.proofs.DrawnLaws.{drawn-then}
+use Rattle.image.proofs.DrawnLaws.{drawn-then}
 use Rattle.image.proofs.DrawnLaws.{drawn-few}
 use Rattle.image.proofs.CellCounts.{bit-few, row-few, cell-few}
 use Rattle.cells.specs.Cell.{dot, bitPixels, rowAt}

@@ -27,7 +27,8 @@ use Rattle.image.specs.Drawn.{drawn}
 use Rattle.vector.specs.Raised.{Reaches}
 use Rattle.vector.proofs.ReachLaws.{reaches}
 use Rattle.cells.specs.Cell.{Near}
-use Rattle.cells.proofs.DrawLaws.{drawn-then, cell-at-most}
+use Rattle.image.proofs.DrawnLaws.{drawn-then}
+use Rattle.cells.proofs.DrawLaws.{cell-at-most}
 use Rattle.items.specs.Ends.{Leads}
 use Rattle.items.specs.Goes.{kept, lights}
 use Rattle.letters.specs.Pair.{pairPixels}

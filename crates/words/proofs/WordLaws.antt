@@ -5,7 +5,7 @@ use mathlib.Core.Path.{_≡_, refl}
 use lib.Dec.{leb, eqb}
 use borrow.Author.Tests.{eq-eqb, ne-eqb, le-leb, lt-leb, not-true, not-false}
 use Rattle.definition.specs.Choice.{firstOf}
-use Rattle.definition.specs.Words.{bits, bit, code, setsMode, notBuilt, order, move, shortX, shortY, long, coordinate, firstCode, secondCode, none, item, isLit, decode, isCode, firstRefusals, secondRefusals}
+use Rattle.definition.specs.Words.{bits, bit, code, setsMode, notBuilt, order, move, shortX, shortY, long, coordinate, firstCode, secondCode, none, item, decode, isCode, firstRefusals, secondRefusals}
 use Rattle.definition.specs.declared.Units.{Units}
 use Rattle.definition.specs.declared.Order.{Order}
 use Rattle.definition.specs.declared.Order.the-variants.{SetMode, Jump, NoOp, StatusA, Increment, StatusC}
@@ -104,15 +104,14 @@ module _ (mode w : ℕ) where
   unfolding decode
   does e p = rw (eq-eqb _ _ e, p)
 
-  pub characters-lit : mode ≡ 0 → true ≡ isLit mode w
-  characters-lit e = rw e
+  module _ {it : Item} (e : bits 15 15 w ≡ 1 → ⊥) where
+    pub draws-characters : mode ≡ 0 → it ≡ item 0 w → Draws true it ≡ decode mode w
+    unfolding decode
+    draws-characters z p = rw (ne-eqb _ _ e, z, p)
 
-  pub others-lit : (mode ≡ 0 → ⊥) → bit 14 w ≡ isLit mode w
-  others-lit e = rw (ne-eqb _ _ e)
-
-  pub draws : {lit : Bool} {it : Item} → (bits 15 15 w ≡ 1 → ⊥) → lit ≡ isLit mode w → it ≡ item mode w → Draws lit it ≡ decode mode w
-  unfolding decode
-  draws e l p = rw (ne-eqb _ _ e, l, p)
+    pub draws : (mode ≡ 0 → ⊥) → it ≡ item mode w → Draws (bit 14 w) it ≡ decode mode w
+    unfolding decode
+    draws z p = rw (ne-eqb _ _ e, ne-eqb _ _ z, p)
 
   -- an order, and whether its code is built
   module _ (e : bits 15 15 w ≡ 1) {t : Bool} (s : t ≡ notBuilt (code w)) where

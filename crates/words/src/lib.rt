@@ -10,7 +10,7 @@ use definition::WriteBits;
 ghost use Prim.Native.Nat.{ℕ};
 ghost use mathlib.Core.Path.{_≡_};
 ghost use Rattle.definition.specs.Choice.{firstOf};
-ghost use Rattle.definition.specs.Words.{bits, setsMode, notBuilt, order, item, isLit, decode, shortX, shortY, long, coordinate, firstCode, secondCode, isCode, firstRefusals, secondRefusals};
+ghost use Rattle.definition.specs.Words.{bits, setsMode, notBuilt, order, item, decode, shortX, shortY, long, coordinate, firstCode, secondCode, isCode, firstRefusals, secondRefusals};
 
 pub const NO_MODE: u8 = 255;
 
@@ -22,20 +22,26 @@ pub fn decode(mode: u8, word: u16) -> Instruction
     if word / 32768 % 2 == 1 {
         return Instruction::Does(order(word));
     }
+    if mode == CHARACTERS {
+        return Instruction::Draws {
+            lit: true,
+            item: characters(word),
+        };
+    }
     Instruction::Draws {
-        lit: is_lit(mode, word),
+        lit: word / 16384 % 2 == 1,
         item: item(mode, word),
     }
 }
 
-// Every character is lit; any other item by bit 14.
-fn is_lit(mode: u8, word: u16) -> bool
-    ensures { λ r. ⌜ r ≡ isLit mode word ⌝ }
+// Every character is lit: bit 14 belongs to the second code.
+fn characters(word: u16) -> Item
+    ensures { λ r. ⌜ r ≡ item 0 word ⌝ }
 {
-    if mode == CHARACTERS {
-        return true;
+    Item::Characters {
+        first: first_code(word) as u8,
+        second: second_code(word) as u8,
     }
-    word / 16384 % 2 == 1
 }
 
 // A code that is not built has no order of its own and reads as 15 does: first_refusal stops it first.
@@ -79,15 +85,12 @@ fn sets_mode(code: u16) -> bool
     code <= 6
 }
 
-// A number that is no mode reads as mode 6 does.
+// A number that is no mode reads as mode 6 does. Mode 0 is `characters`.
 fn item(mode: u8, word: u16) -> Item
+    requires { ⌜ (mode ≡ 0 → ⊥) ⌝ }
     ensures { λ r. ⌜ r ≡ item mode word ⌝ }
 {
     match mode {
-        CHARACTERS => Item::Characters {
-            first: first_code(word) as u8,
-            second: second_code(word) as u8,
-        },
         1 => Item::ShortVector {
             x: short_x(word),
             y: short_y(word),

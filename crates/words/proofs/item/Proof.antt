@@ -1,20 +1,8 @@
 use native.Mathlib.Omega.{arith}
-use Rattle.words.proofs.WordLaws.{characters, short-vector, long-vector, absolute-point, graph-x, graph-y, relative-point}
+use Rattle.words.proofs.WordLaws.{short-vector, long-vector, absolute-point, graph-x, graph-y, relative-point}
 use borrow.Author.Needs.{needs}
 use Rattle.words.proofs.item.Statement.{statement}
 use Rattle.words.proofs.item.Tie as tie
-
-first-code-requires : tie.Need-first-code-requires
-first-code-requires c κs = search needs
-
-cast-t5 : tie.Need-cast-t5
-cast-t5 c = search needs
-
-second-code-requires : tie.Need-second-code-requires
-second-code-requires c κs = search needs
-
-cast-t7 : tie.Need-cast-t7
-cast-t7 c = search needs
 
 short-x-requires : tie.Need-short-x-requires
 short-x-requires c κs = search needs
@@ -41,34 +29,27 @@ short-y-requires-2 : tie.Need-short-y-requires-2
 short-y-requires-2 c κs = search needs
 
 returns : tie.Need-returns
-returns c = characters _ _ (c .before .before .match .keys1) (c .before .first-code .ensures) (c .second-code .ensures)
+returns c = short-vector _ _ (c .before .before .match .keys1) (c .before .short-x .ensures) (c .short-y .ensures)
 
 returns-2 : tie.Need-returns-2
-returns-2 c = short-vector _ _ (c .before .before .match .keys2) (c .before .short-x .ensures) (c .short-y .ensures)
+returns-2 c = long-vector _ _ (c .before .match .keys2) (c .long .ensures)
 
 returns-3 : tie.Need-returns-3
-returns-3 c = long-vector _ _ (c .before .match .keys3) (c .long .ensures)
+returns-3 c = absolute-point _ _ (c .before .match .keys3) (c .coordinate .ensures)
 
 returns-4 : tie.Need-returns-4
-returns-4 c = absolute-point _ _ (c .before .match .keys4) (c .coordinate .ensures)
+returns-4 c = graph-x _ _ (c .before .match .keys4) (c .coordinate2 .ensures)
 
 returns-5 : tie.Need-returns-5
-returns-5 c = graph-x _ _ (c .before .match .keys5) (c .coordinate2 .ensures)
+returns-5 c = graph-y _ _ (c .before .match .keys5) (c .coordinate3 .ensures)
 
 returns-6 : tie.Need-returns-6
-returns-6 c = graph-y _ _ (c .before .match .keys6) (c .coordinate3 .ensures)
-
-returns-7 : tie.Need-returns-7
-returns-7 c = relative-point _ _ (omega arith) (omega arith) (omega arith) (omega arith) (omega arith) (omega arith) (c .before .short-x2 .ensures) (c .short-y2 .ensures)
+returns-6 c = relative-point _ _ (c .before .before .before .pre) (omega arith) (omega arith) (omega arith) (omega arith) (omega arith) (c .before .short-x2 .ensures) (c .short-y2 .ensures)
 
 pub item-spec : {M : Type 1} → statement M
 item-spec =
     tie.close
     (tie.spec
-    first-code-requires
-    cast-t5
-    second-code-requires
-    cast-t7
     short-x-requires
     short-y-requires
     long-requires
@@ -82,5 +63,4 @@ item-spec =
     returns-3
     returns-4
     returns-5
-    returns-6
-    returns-7)
+    returns-6)
