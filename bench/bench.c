@@ -21,6 +21,8 @@ static _Alignas(64) uint8_t image[ROADPARSNIP_IMAGE_BYTES];
 static size_t image_bytes = ROADPARSNIP_IMAGE_BYTES;
 static uint32_t budget = ROADPARSNIP_MOST_STEPS;
 static roadparsnip_machine machine;
+static uint8_t set[ROADPARSNIP_SET_BYTES + 1];
+static size_t set_bytes; /* 0: the built-in set serves */
 
 static uint64_t sum = 1;
 static char stack[1 << 18];
@@ -57,7 +59,7 @@ static void add_ran(roadparsnip_ran ran) {
 
 static void run(const display_file *file) {
     note();
-    add_ran(roadparsnip_run(file->word, file->words, machine, image, image_bytes, budget));
+    add_ran(roadparsnip_run(file->word, file->words, machine, image, image_bytes, budget, set, set_bytes));
 }
 
 static void clear(void) {
@@ -103,7 +105,7 @@ static void step_turn(void) {
     roadparsnip_machine m = machine;
     for (int i = 0; i < 1000; i++) {
         note();
-        roadparsnip_ran ran = roadparsnip_step(files->word, files->words, m, image, image_bytes);
+        roadparsnip_ran ran = roadparsnip_step(files->word, files->words, m, image, image_bytes, set, set_bytes);
         add_ran(ran);
         m = ran.machine;
     }
@@ -263,7 +265,37 @@ static void points(const char *detail) {
     close_file(files);
 }
 
-/* A loop over every kind of instruction, each cheap; the absolute point brings the position back. */
+/* Lines of text from the left edge on, each of so many words of two characters; every code has its turn. */
+static void text_from(int x, int words) {
+    int at = 0;
+    for (int y = 0; y < 1000; y += 20) {
+        put(0114000);
+        put(x);
+        put(y);
+        put(0100000);
+        for (int i = 0; i < words; i++, at += 2) put((32 + (at + 1) % 95) * 0400 + 32 + at % 95);
+    }
+    put(0172000);
+    close_file(files);
+}
+
+static void text(const char *detail) {
+    (void)detail;
+    text_from(0, 31);
+}
+
+static void lent_text(const char *detail) {
+    text(detail);
+    for (size_t i = 0; i < sizeof set; i++) set[i] = (uint8_t)(i * 167 + i / 8 * 29);
+    set_bytes = ROADPARSNIP_SET_BYTES;
+}
+
+static void cut_text(const char *detail) {
+    (void)detail;
+    text_from(1010, 1);
+}
+
+/* A loop over every kind of instruction but characters, each cheap; the absolute point brings the position back. */
 static void mixed(const char *steps) {
     static const uint16_t loop[] = {0164000, 0174120, 0171000, 0176020, 0114000, 040400, 0400,    0124000, 041000, 041010, 0120000, 040600,
                                     0130000, 041303, 040201, 0104000, 041303, 001003, 0110000, 000010, 000020, 0164000, 0160000, 0};
@@ -323,6 +355,11 @@ static void wrong_budget(const char *path) {
     budget++;
 }
 
+static void wrong_set(const char *path) {
+    from_path(path);
+    set_bytes = sizeof set;
+}
+
 static void not_running(const char *path) {
     from_path(path);
     machine.status = ROADPARSNIP_STOPPED;
@@ -343,6 +380,9 @@ static const struct workload {
     {"beyond", beyond, run_turn},
     {"shorts", shorts, run_turn},
     {"points", points, run_turn},
+    {"text", text, run_turn},
+    {"lent-text", lent_text, run_turn},
+    {"cut-text", cut_text, run_turn},
     {"clear", nothing, clear},
     {"read", nothing, read_turn},
     {"outside", nothing, outside_turn},
@@ -358,6 +398,7 @@ static const struct workload {
     {"image", wrong_image, run_turn},
     {"machine", wrong_machine, run_turn},
     {"budget", wrong_budget, run_turn},
+    {"set", wrong_set, run_turn},
     {"status", not_running, run_turn},
 };
 

@@ -2,6 +2,8 @@
 # picture is moved to its name when it is whole.
 . "$top/tools/reasons.sh"
 budget=32768
+# set: the file of the characters that are lent; empty for the built-in ones
+set=
 # to: the folder of --out. ending: png or pgm. out: the picture; empty for standard output. folder: where ours is made.
 to=
 ending=
@@ -22,6 +24,15 @@ take_budget() {
     '' | *[!0-9]* | ????????*) budget=1000001 ;;
     esac
     [ "$budget" -le 1000000 ] || fail "the budget is a number of steps from 0 to 1000000, and '$1' is not."
+}
+
+# FILE: a set of characters. Its length is the run's to ask: 18.
+take_set() {
+    case $1 in
+    -) fail 'a set of characters needs a name, and standard input has none.' ;;
+    -*) set=./$1 ;;
+    *) set=$1 ;;
+    esac
 }
 
 # FILE: the name of its picture with --out.
@@ -58,6 +69,7 @@ take_output() {
     esac
     [ ! -d "$2" ] || fail "$2 is a folder, not a picture to write."
     [ ! "$1" -ef "$2" ] || fail "$2 is the display file: give the picture another name."
+    [ ! "$set" -ef "$2" ] || fail "$2 is the set of characters: give the picture another name."
     case $2 in
     -*) out=./$2 ;;
     *) out=$2 ;;
@@ -166,7 +178,11 @@ draw() {
         n=$((n + 1))
         pairs="$pairs \"\${$n}\" \"\$room/$n.pgm\""
     done
-    eval "run_program \"\$budget\" $pairs"
+    eval "run_program \"\$budget\" \"\$set\" $pairs"
+    if [ "$answers" = 'no set' ]; then
+        unread "$set" 'set of characters'
+        exit 2
+    fi
     if [ "$ending" = png ] && [ "$count" -gt 1 ]; then to_png_at_once; fi
     n=0
     of=
@@ -186,7 +202,7 @@ END
 
 while :; do
     case ${1:-} in
-    --budget=* | --out=*)
+    --budget=* | --set=* | --out=*)
         option=$1
         shift
         set -- "${option%%=*}" "${option#*=}" "$@"
@@ -194,6 +210,11 @@ while :; do
     --budget)
         [ $# -gt 1 ] || fail '--budget needs a number of steps after it.'
         take_budget "$2"
+        shift 2
+        ;;
+    --set)
+        [ -n "${2:-}" ] || fail '--set needs a file of characters after it.'
+        take_set "$2"
         shift 2
         ;;
     --out)

@@ -29,7 +29,7 @@ sed -nE '/^[a-z]+\/[a-z0-9]+(_[a-z0-9]+)+$/p' "$work/promised" >>"$work/edits"
 while IFS=/ read -r crate edit; do
     [ -f "crates/$crate/must-fail/$edit.edit" ] || { echo "docs/ names the edit $edit of $crate, which is not there"; failed=1; }
 done <"$work/edits"
-for crate in outcome items orders machine run doors still display numbers host; do
+for crate in outcome items letters orders machine run doors still display numbers host; do
     for edit in crates/"$crate"/must-fail/*.edit; do
         grep -qx -e "$crate/$(basename "$edit" .edit)" "$work/promised" || { echo "docs/PROMISES.md does not name $edit"; failed=1; }
     done
@@ -51,11 +51,11 @@ done <"$work/promises"
 # `crate::function`: in that crate's source; and each that is public is named
 sed -nE 's/^([a-z]+)::([a-z_0-9]+)$/\1 \2/p' "$work/named" >"$work/functions"
 while read -r crate function; do
-    grep -Eq "^(pub )?(extern \"C\" )?fn $function\(" "crates/$crate/src/lib.rt" 2>/dev/null ||
+    grep -Eq "^(pub )?(extern \"C\" )?fn $function[<(]" "crates/$crate/src/lib.rt" 2>/dev/null ||
         { echo "$doc names the function $crate::$function, which is not there"; failed=1; }
 done <"$work/functions"
-for crate in units image file words vector outcome items orders machine run doors still display numbers host line text screen input; do
-    sed -nE "s/^pub (extern \"C\" )?fn ([a-z_0-9]+)\(.*/$crate::\2/p" "crates/$crate/src/lib.rt"
+for crate in units image file words vector cells outcome items letters orders machine run doors still display numbers host line text screen input; do
+    sed -nE "s/^pub (extern \"C\" )?fn ([a-z_0-9]+)[<(].*/$crate::\2/p" "crates/$crate/src/lib.rt"
 done >"$work/public"
 while read -r function; do
     grep -qx -e "$function" "$work/named" || { echo "$doc does not name the function $function"; failed=1; }

@@ -31,6 +31,7 @@ numbered() {
 # a line for each interface
 cat >"$work/interfaces" <<'END'
 2 2734585193
+3 2043923887
 END
 now=$(numbered include/roadparsnip.h)
 number=${now% *}

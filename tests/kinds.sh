@@ -69,6 +69,10 @@ vector::rounded Pixels 1
 still::fresh Units 2
 line::refused Units 2
 items::grown Units 1
+# the advance of a character, which is in units; the pixels of a cell, from its corner
+letters::characters Units 1
+letters::past Units 1 opens 1
+cells::further Pixels 1 opens 1
 # a host's numbers: X and Y of its machine are units, those of the pixel that it reads are pixels
 numbers::machine_of Units 2
 numbers::numbers_of opens 2
@@ -83,7 +87,7 @@ parts::image_case Pixels 2
 parts::word_case opens 2
 parts::pixels_of Pixels 1
 accounts::put_moved opens 1
-accounts::item_account Units 4
+accounts::item_account Units 6
 accounts::moves opens 2
 # document 01's edges: units where a machine stands or a unit is halved, pixels where one is read; what came out is printed
 edges::machine_at Units 2

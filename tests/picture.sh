@@ -1,5 +1,5 @@
 #!/bin/sh
-# The command picture against the second interpreter, on the examples and on random files, at several budgets; the two pictures of docs/; and as it is
+# The command picture against the second interpreter, on the examples and on random files, at several budgets; the three pictures of docs/; and as it is
 # called: to a file, to standard output, to a folder, with something wrong. SEED=n repeats a run.
 set -eu
 cd "$(dirname "$0")/.."
@@ -82,7 +82,7 @@ for steps in 32768 $((seed % 40)) $((seed % 1000001)); do
     }
 done
 
-# ---- the fault: the marks of the weeks, of value 3, and no other pixel stand 8 columns further right
+# ---- the fault: the marks of the weeks, of value 3 within the axes, stand 8 columns further right, and no other pixel does: no number, no line
 "$second" picture <examples/weeks.df >"$work/right"
 "$second" fault <examples/weeks.df >"$work/late"
 # PICTURE: the column, the row from the top and the value of each pixel that is not 0
@@ -92,9 +92,10 @@ pixels() {
 pixels "$work/right" >"$work/right.pixels"
 pixels "$work/late" >"$work/late.pixels"
 shifted=$(awk '
-    FNR == NR && $3 == 3 { marks++; right[$1 + 8, $2]; left[$1, $2]; next }
+    { mark = $3 == 3 && $1 >= 46 && $2 < 464 }
+    FNR == NR && mark { marks++; right[$1 + 8, $2]; left[$1, $2]; next }
     FNR == NR { other[$1, $2] = $3; next }
-    $3 == 3 { late++; if (!(($1, $2) in right)) wrong++; if (($1, $2) in other) hidden++; next }
+    mark { late++; if (!(($1, $2) in right)) wrong++; if (($1, $2) in other) hidden++; next }
     (($1, $2) in other) { same++; if (other[$1, $2] != $3) wrong++; next }
     !(($1, $2) in left) { wrong++ }
     END { for (place in other) others++; print marks, late, wrong + 0, others - hidden - same }' "$work/right.pixels" "$work/late.pixels")
@@ -127,7 +128,8 @@ END
 }
 readable=no
 if command -v pngtopnm >/dev/null || command -v python3 >/dev/null; then readable=yes; fi
-for pair in 'weeks right' 'weeks-fault late'; do
+"$second" picture <examples/letters.df >"$work/letters"
+for pair in 'weeks right' 'weeks-fault late' 'letters letters'; do
     png=docs/${pair% *}.png
     [ "$(wc -c <"$png")" -le 51200 ] || fail "$png has more than 50 KB"
     if [ "$readable" = no ]; then
@@ -148,9 +150,9 @@ is() {
     [ "$(sed 's/^picture: //' "$work/error")" = "$sentences" ] || fail "'$*' says '$(cat "$work/error")', not '$sentences'"
     [ "$status" -ne 2 ] || [ ! -s "$work/said" ] || fail "'$*' writes to standard output"
 }
-# FILE EXAMPLE [BUDGET]: the picture of it
+# FILE EXAMPLE [BUDGET [SET]]: the picture of it
 shows() {
-    "$second" picture ${3:-} <"examples/$2.df" | cmp -s - "$1" || fail "$1 is not the picture of $2"
+    "$second" picture ${3:-} ${4:+"$4"} <"examples/$2.df" | cmp -s - "$1" || fail "$1 is not the picture of $2"
     rm "$1"
 }
 picture() { ./roadparsnip picture "$@"; }
@@ -190,6 +192,34 @@ for wrong in 1000001 99999999999999999999 '' -1 1,000 1e3 0x10 ' 5'; do
     is 2 "the budget is a number of steps from 0 to 1000000, and '$wrong' is not." picture --budget "$wrong" examples/weeks.df "$out"
 done
 is 2 '--budget needs a number of steps after it.' picture --budget
+
+# ---- a set of characters: every cell turned upside down; none; of other lengths; and what is no set
+"$second" set | od -A n -v -t o1 -w8 | awk '{ for (i = 8; i > 0; i--) printf "\\%s", $i }' >"$work/octal"
+printf "$(cat "$work/octal")" >"$work/a set"
+[ "$(wc -c <"$work/a set")" -eq 760 ] || fail 'the set that was made does not have 760 bytes'
+is 0 '' picture --set "$work/a set" examples/letters.df "$out"
+cmp -s "$work/letters" "$out" && fail 'with a lent set the picture is the same'
+shows "$out" letters 32768 "$work/a set"
+is 0 'still running after 9 steps; the picture is what was drawn so far.' picture --budget 9 --set="$work/a set" examples/letters.df "$out"
+shows "$out" letters 9 "$work/a set"
+is 0 '' picture --pgm --set "$work/a set" --out "$work/out" examples/letters.df examples/feed-me.df
+shows "$work/out/letters.pgm" letters 32768 "$work/a set"
+shows "$work/out/feed-me.pgm" feed-me 32768 "$work/a set"
+: >"$work/empty set"
+is 0 '' picture --set "$work/empty set" examples/letters.df "$out"
+shows "$out" letters
+for size in 1 759 761 1000; do
+    { cat "$work/a set" && head -c 240 /dev/zero; } | head -c "$size" >"$work/wrong set"
+    is 1 'refused, 18: the set of characters does not have 760 bytes; nothing was drawn.' picture --set "$work/wrong set" examples/letters.df "$out"
+    shows "$out" letters 32768 "$work/wrong set"
+done
+is 2 'there is no file none.set.' picture --set none.set examples/letters.df "$out"
+is 2 'examples is a folder, not a set of characters.' picture --set examples examples/letters.df "$out"
+is 2 'a set of characters needs a name, and standard input has none.' picture --set - examples/letters.df "$out"
+is 2 '--set needs a file of characters after it.' picture --set
+cp "$work/a set" "$work/set.pgm"
+is 2 "$work/set.pgm is the set of characters: give the picture another name." picture --set "$work/set.pgm" examples/letters.df "$work/set.pgm"
+cmp -s "$work/a set" "$work/set.pgm" || fail 'a set of characters was written over'
 
 # ---- many files to a folder, which is made: what cannot be read is left out, and the rest is drawn
 many="$work/many/of them"

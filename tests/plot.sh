@@ -73,7 +73,7 @@ pieces() {
         at=$((at + 1))
     done
 }
-{ cat examples/weeks.df; head -c 64424 /dev/zero; } >"$work/full.df"
+{ cat examples/weeks.df; head -c $((65536 - $(wc -c <examples/weeks.df))) /dev/zero; } >"$work/full.df"
 { cat "$work/full.df"; head -c 2 /dev/zero; } >"$work/over.df"
 for case in "examples/weeks.df 61 $(cat examples/weeks.line)" "$work/full.df 30001 $(cat examples/weeks.line)" "$work/over.df 30001 19 0 0 0 0 0 0"; do
     line=${case#* }

@@ -27,7 +27,7 @@ need_input() {
     done
 }
 
-# FILE: why it could not be read.
+# FILE [WHAT]: why it could not be read; what it should be, where that is no display file.
 unread() {
     case $1 in
     '') say "a file's name is empty." ;;
@@ -36,7 +36,7 @@ unread() {
         if [ ! -e "$1" ]; then
             say "there is no file $1."
         elif [ -d "$1" ]; then
-            say "$1 is a folder, not a display file."
+            say "$1 is a folder, not a ${2:-display file}."
         else
             say "$1 cannot be read."
         fi

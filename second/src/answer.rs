@@ -10,6 +10,7 @@ pub enum Door {
     SegmentBounds = 15,
     MachineField = 16,
     Budget = 17,
+    CharacterSet = 18,
     PlotInput = 19,
     NotRunning = 28,
     OutsideField = 31,
@@ -25,6 +26,7 @@ pub enum Fault {
     NoMode = 25,
     SecondWord = 26,
     PositionRange = 27,
+    CharacterCode = 32,
 }
 
 /// The outcome of a call.

@@ -18,7 +18,9 @@ const SEGMENT_BYTES: u16 = 2 * SEGMENT_WORDS;
 const MOST_STORES: u64 = 600;
 const MOST_STEPS: u64 = 200;
 
-const NO_MODE: u16 = 0;
+/// No code of a mode.
+const NO_MODE: u16 = 255;
+pub(crate) const CHARACTERS: u16 = 0;
 pub(crate) const SHORT_VECTOR: u16 = 1;
 pub(crate) const LONG_VECTOR: u16 = 2;
 pub(crate) const ABSOLUTE_POINT: u16 = 3;
@@ -30,7 +32,7 @@ pub(crate) const JUMP: u16 = 12;
 const NO_OP: u16 = 13;
 const STATUS_A: u16 = 14;
 const STATUS_C_OR_INCREMENT: u16 = 15;
-const NOT_BUILT: [u16; 6] = [0, 7, 8, 9, 10, 11];
+const NOT_BUILT: [u16; 5] = [7, 8, 9, 10, 11];
 
 /// All bits but 15.
 pub(crate) const DATA: u16 = 0x7FFF;
@@ -39,6 +41,13 @@ const MINUS: u16 = 1 << 13;
 const LONGEST_MOVE: i32 = 1_023;
 const LOWEST: i32 = -4_096;
 const HIGHEST: i32 = 4_095;
+
+/// How far a word of two characters takes X, and the units that a cell is wide and high.
+const CHARACTERS_ADVANCE: i32 = 32;
+const CELL_UNITS: i32 = 16;
+const FIELD_UNITS: i32 = 1_024;
+/// Codes just beyond those that have a cell, and the one that a file padded with zeros has.
+const NO_CELL: [u16; 3] = [0, 31, 127];
 
 /// The bytes of a file, and the line of `plot` for them.
 #[derive(Clone, Debug, PartialEq, Eq)]
@@ -109,6 +118,7 @@ pub(crate) fn program(random: &mut Random) -> Vec<u16> {
         &[]
     } else {
         &[
+            CHARACTERS,
             SHORT_VECTOR,
             LONG_VECTOR,
             ABSOLUTE_POINT,
@@ -187,7 +197,7 @@ fn repeated(random: &mut Random) -> Vec<u16> {
 
 /// Words that nobody meant as a program, behind a mode so that some of them are obeyed.
 pub(crate) fn noise(random: &mut Random) -> Vec<u16> {
-    let mut words = vec![control(random.between(1, 6))];
+    let mut words = vec![control(random.between(0, 6))];
     for _ in 0..random.below(40) {
         let word = random.word();
         words.push(if random.chance(70) { word & DATA } else { word });
@@ -329,8 +339,10 @@ impl<'a> Writer<'a> {
             0..=5 => self.jump_ahead(),
             _ if self.modes.is_empty() => self.order(),
             6..=20 => self.graph_over_the_edge(),
-            21..=40 => self.vectors_along_the_edge(),
-            41..=44 => self.brink(),
+            21..=37 => self.vectors_along_the_edge(),
+            38..=41 => self.brink(),
+            42..=56 => self.characters_over_the_edge(),
+            57..=59 => self.characters_at_the_brink(),
             _ => self.plain_passage(),
         }
     }
@@ -343,7 +355,9 @@ impl<'a> Writer<'a> {
             let mode = self.random.pick(self.modes);
             self.set_mode(mode);
         }
-        for _ in 0..1 + self.random.below(5) {
+        // A character word stores more than most items.
+        let most = if self.mode == CHARACTERS { 2 } else { 5 };
+        for _ in 0..1 + self.random.below(most) {
             self.item();
         }
     }
@@ -411,6 +425,10 @@ impl<'a> Writer<'a> {
     fn item(&mut self) {
         let lit = if self.random.chance(self.lit) { LIT } else { 0 };
         match self.mode {
+            CHARACTERS => {
+                let word = self.random.characters();
+                self.words.push(word);
+            }
             SHORT_VECTOR | RELATIVE_POINT => {
                 let word = self.random.short_moves();
                 self.words.push(lit | word);
@@ -491,7 +509,8 @@ impl<'a> Writer<'a> {
     fn brink(&mut self) {
         let upward = self.random.chance(50);
         let along_x = self.random.chance(50);
-        self.reach_the_brink(upward, along_x);
+        let left = self.random.below(5);
+        self.reach_the_brink(upward, along_x, left.into());
         let graph = if along_x { GRAPH_Y } else { GRAPH_X };
         let mode = self.random.pick(&[SHORT_VECTOR, RELATIVE_POINT, graph]);
         self.increment();
@@ -506,7 +525,8 @@ impl<'a> Writer<'a> {
         }
     }
 
-    fn reach_the_brink(&mut self, upward: bool, along_x: bool) {
+    /// To so many units from the end of the range.
+    fn reach_the_brink(&mut self, upward: bool, along_x: bool, left: i32) {
         let (x, y) = (self.random.coordinate(), self.random.coordinate());
         self.point(x, y);
         self.set_mode(LONG_VECTOR);
@@ -516,16 +536,64 @@ impl<'a> Writer<'a> {
         } else {
             from - LOWEST
         };
-        let mut rest = distance - i32::from(self.random.below(5));
+        let rest = distance - left;
+        self.shift(if upward { rest } else { -rest }, along_x);
+    }
+
+    /// Unlit long vectors along one axis.
+    fn shift(&mut self, by: i32, along_x: bool) {
+        let mut rest = by.abs();
         while rest > 0 {
             let size = rest.min(LONGEST_MOVE);
             rest -= size;
-            let far = size as u16 | if upward { 0 } else { MINUS };
+            let far = size as u16 | if by < 0 { MINUS } else { 0 };
             // Minus zero, half the time.
             let stay = self.random.sign();
             let (x, y) = if along_x { (far, stay) } else { (stay, far) };
             self.pair(x, y, 0x1C00);
         }
+    }
+
+    /// Characters that an edge of the field cuts, or that stand wholly beyond one.
+    fn characters_over_the_edge(&mut self) {
+        let (x, y) = (self.random.about_a_cell(), self.random.about_a_cell());
+        let hidden = self.random.chance(12);
+        if hidden {
+            self.write(false);
+        }
+        let in_field = |unit: i32| unit.clamp(0, FIELD_UNITS - 1);
+        self.point(in_field(x) as u16, in_field(y) as u16);
+        if (x, y) != (in_field(x), in_field(y)) {
+            self.set_mode(LONG_VECTOR);
+            self.shift(x - in_field(x), true);
+            self.shift(y - in_field(y), false);
+        }
+        self.set_mode(CHARACTERS);
+        for _ in 0..1 + self.random.below(8) / 6 {
+            self.item();
+        }
+        if hidden && self.random.chance(80) {
+            self.write(true);
+        }
+    }
+
+    /// Characters at the right end of the range, where the last of them stay in it or leave it.
+    fn characters_at_the_brink(&mut self) {
+        let count = self.random.between(1, 2);
+        let past = i32::from(self.random.below(3)) - i32::from(self.random.below(2));
+        let left = CHARACTERS_ADVANCE * i32::from(count) - past;
+        self.reach_the_brink(true, true, left);
+        self.set_mode(CHARACTERS);
+        for _ in 0..count {
+            self.item();
+        }
+    }
+
+    fn write(&mut self, on: bool) {
+        let write = u16::from(on) << 4;
+        let unread = self.random.unread(0x00EF);
+        self.words
+            .push(control(STATUS_C_OR_INCREMENT) | 1 << 10 | write | unread);
     }
 
     /// What ends the run, in a file of so many segments.
@@ -557,23 +625,34 @@ impl<'a> Writer<'a> {
                 self.jump(target);
             }
             55..=62 => self.half_a_pair(),
-            63..=71 => {
+            63..=70 => {
                 let code = self.random.pick(&NOT_BUILT);
                 let unread = self.random.unread(0x07FF);
                 self.words.push(control(code) | unread);
             }
-            72..=80 => {
+            71..=78 => {
                 self.half_a_pair();
                 let second = self.random.word() | 1 << 15;
                 self.words.push(second);
             }
-            81..=91 => {
+            79..=86 => {
                 let upward = self.random.chance(50);
                 let along_x = self.random.chance(50);
-                self.reach_the_brink(upward, along_x);
+                let left = self.random.below(5);
+                self.reach_the_brink(upward, along_x, left.into());
                 self.set_mode(SHORT_VECTOR);
                 let size = self.random.between(5, 63);
                 self.words.push(LIT | short_move(upward, along_x, size));
+            }
+            87..=94 => {
+                if self.random.chance(20) {
+                    // So far out that the position would leave the range besides.
+                    let left = self.random.below(32);
+                    self.reach_the_brink(true, true, left.into());
+                }
+                self.set_mode(CHARACTERS);
+                let word = self.random.no_characters();
+                self.words.push(word);
             }
             _ => {
                 // Anywhere: perhaps into a second word, an empty segment, or none.
@@ -689,6 +768,60 @@ impl Random {
         self.sign() | self.small(16, limit)
     }
 
+    /// A word of two characters, seldom one of codes that have no cell.
+    fn characters(&mut self) -> u16 {
+        if self.chance(4) {
+            return self.no_characters();
+        }
+        self.good_characters()
+    }
+
+    pub(crate) fn good_characters(&mut self) -> u16 {
+        let (first, second) = (self.character(), self.character());
+        self.halves(first, second)
+    }
+
+    /// A word whose first half, second half or both have no cell.
+    pub(crate) fn no_characters(&mut self) -> u16 {
+        let (good, other) = (self.character(), self.character());
+        let any = self.below(32);
+        let bad = if self.chance(80) {
+            self.pick(&NO_CELL)
+        } else {
+            any
+        };
+        match self.below(5) {
+            0 | 1 => self.halves(bad, good),
+            2 | 3 => self.halves(good, bad),
+            _ => self.halves(bad, if other % 2 == 0 { 127 } else { any }),
+        }
+    }
+
+    fn halves(&mut self, first: u16, second: u16) -> u16 {
+        second << 8 | self.below(2) << 7 | first
+    }
+
+    /// A digit, the first or the last code that has a cell, or any other.
+    fn character(&mut self) -> u16 {
+        match self.below(8) {
+            0..=2 => self.between(48, 57),
+            3 => 32,
+            4 => 126,
+            _ => self.between(33, 125),
+        }
+    }
+
+    /// Where a cell is cut by an edge of the field, or about that.
+    fn about_a_cell(&mut self) -> i32 {
+        match self.below(8) {
+            0 | 1 => i32::from(self.below(18)) - CELL_UNITS - 1,
+            2 | 3 => FIELD_UNITS - CELL_UNITS - 1 + i32::from(self.below(18)),
+            4 => -CELL_UNITS - i32::from(self.below(40)),
+            5 => FIELD_UNITS + i32::from(self.below(40)),
+            _ => i32::from(self.below(1_024)),
+        }
+    }
+
     /// A coordinate, most often near an end of the field.
     fn coordinate(&mut self) -> u16 {
         match self.below(3) {
@@ -702,6 +835,11 @@ impl Random {
 #[cfg(test)]
 mod tests {
     use super::*;
+    use crate::file::File;
+    use crate::image::IMAGE_BYTES;
+    use crate::machine::{fresh, Machine};
+    use crate::run::{step, Outcome};
+    use std::collections::BTreeMap;
 
     fn first(seed: u64, count: usize) -> Vec<Case> {
         cases(seed).take(count).collect()
@@ -716,13 +854,169 @@ mod tests {
     #[test]
     fn every_answer_of_plot_occurs() {
         let cases = first(1, 2_000);
-        for answer in [0, 1, 2, 12, 13, 14, 15, 19].into_iter().chain(21..=27) {
+        for answer in [0, 1, 2, 12, 13, 14, 15, 19]
+            .into_iter()
+            .chain(21..=27)
+            .chain([32])
+        {
             let times = cases
                 .iter()
                 .filter(|case| case.line.answer == answer)
                 .count();
             assert!(times >= 10, "answer {} occurs {} times", answer, times);
         }
+    }
+
+    /// What a character word is, and the order that sets its mode, by names.
+    fn kinds(bytes: &[u8]) -> Vec<&'static str> {
+        let mut kinds = Vec::new();
+        let words: Vec<u16> = bytes
+            .chunks_exact(2)
+            .map(|pair| u16::from_le_bytes([pair[0], pair[1]]))
+            .collect();
+        let file = match File::open(&words) {
+            Ok(file) if bytes.len() % 2 == 0 => file,
+            _ => return kinds,
+        };
+        let mut image = vec![0; IMAGE_BYTES];
+        let (mut machine, mut lettered) = (fresh(), false);
+        for _ in 0..MOST_STEPS {
+            let outcome = step(&words, machine, &mut image, &[]);
+            match file.fetch(machine.counter) {
+                Ok(word) if word & !DATA == 0 && machine.mode == 0 => {
+                    lettered = true;
+                    halves(&mut kinds, word);
+                    ends(&mut kinds, machine, &outcome);
+                }
+                Ok(word) if word >> 11 == control(0) >> 11 => {
+                    let valued = word >> 10 & 1 == 1;
+                    kinds.push(if valued {
+                        "mode, bit 10 set"
+                    } else {
+                        "mode, bit 10 clear"
+                    });
+                }
+                Ok(word) if word & !DATA == 0 && lettered && outcome.stores > 0 => {
+                    kinds.push("other modes after characters");
+                }
+                _ => {}
+            }
+            machine = outcome.machine;
+            if machine.status != 0 {
+                break;
+            }
+        }
+        kinds
+    }
+
+    fn halves(kinds: &mut Vec<&'static str>, word: u16) {
+        let good = |code: u16| (32..=126).contains(&code);
+        let (first, second) = (word & 127, word >> 8);
+        kinds.push(match (good(first), good(second)) {
+            (true, true) => "both halves good",
+            (false, true) => "first half bad",
+            (true, false) => "second half bad",
+            (false, false) => "both halves bad",
+        });
+        for (code, names) in [
+            (0, ["first 0", "second 0"]),
+            (31, ["first 31", "second 31"]),
+            (32, ["first 32", "second 32"]),
+            (126, ["first 126", "second 126"]),
+            (127, ["first 127", "second 127"]),
+        ] {
+            if first == code {
+                kinds.push(names[0]);
+            }
+            if second == code {
+                kinds.push(names[1]);
+            }
+        }
+        let bit_7 = word >> 7 & 1 == 1;
+        kinds.push(if bit_7 { "bit 7 set" } else { "bit 7 clear" });
+    }
+
+    /// Where the characters are, and where they lead.
+    fn ends(kinds: &mut Vec<&'static str>, before: Machine, outcome: &Outcome) {
+        let (x, y) = (before.x.0, before.y.0);
+        match (outcome.answer.number(), x + 32) {
+            (0, 4_095) => kinds.push("to X 4,095"),
+            (27, 4_096) => kinds.push("to X 4,096, refused"),
+            (32, 4_096..=i64::MAX) => kinds.push("32 before 27"),
+            _ => {}
+        }
+        if outcome.steps == 0 {
+            return;
+        }
+        if before.write == 0 {
+            kinds.push("write off");
+        }
+        let (across, up) = ((0..1_024).contains(&x), (0..1_009).contains(&y));
+        for (holds, name) in [
+            (up && (-15..0).contains(&x), "cut left"),
+            (up && (1_010..1_024).contains(&x), "cut right"),
+            (across && (1_010..1_024).contains(&y), "cut top"),
+            (across && (-15..0).contains(&y), "cut bottom"),
+            (up && x < -32, "beyond, left"),
+            (up && x >= 1_024, "beyond, right"),
+            (across && y >= 1_024, "beyond, above"),
+            (across && y < -16, "beyond, below"),
+        ] {
+            if holds {
+                kinds.push(name);
+            }
+        }
+    }
+
+    #[test]
+    fn character_words_occur_in_all_their_kinds() {
+        let mut counts = BTreeMap::new();
+        let mut files = 0;
+        for case in first(5, 2_000) {
+            let kinds = kinds(&case.bytes);
+            files += usize::from(kinds.contains(&"both halves good"));
+            for kind in kinds {
+                *counts.entry(kind).or_insert(0) += 1;
+            }
+        }
+        assert!(files > 500, "{} files have characters", files);
+        for kind in [
+            "mode, bit 10 set",
+            "mode, bit 10 clear",
+            "both halves good",
+            "first half bad",
+            "second half bad",
+            "both halves bad",
+            "first 0",
+            "second 0",
+            "first 31",
+            "second 31",
+            "first 32",
+            "second 32",
+            "first 126",
+            "second 126",
+            "first 127",
+            "second 127",
+            "bit 7 set",
+            "bit 7 clear",
+            "to X 4,095",
+            "to X 4,096, refused",
+            "32 before 27",
+            "write off",
+            "cut left",
+            "cut right",
+            "cut top",
+            "cut bottom",
+            "beyond, left",
+            "beyond, right",
+            "beyond, above",
+            "beyond, below",
+            "other modes after characters",
+        ] {
+            let times = counts.remove(kind).unwrap_or(0);
+            assert!(times >= 8, "{} occurs {} times", kind, times);
+        }
+        assert!(counts.is_empty(), "{:?}", counts);
     }
 
     #[test]

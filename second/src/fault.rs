@@ -14,7 +14,8 @@ const GRAPH_Y: u8 = 5;
 /// Set in every word that is no data word.
 const CONTROL: u16 = 1 << 15;
 
-/// The screen of a display file as that interpreter drew it in so many steps.
+/// The screen of a display file as that interpreter drew it in so many steps. Characters, which it
+/// did not have, are the built-in ones.
 pub fn fault(bytes: &[u8], budget: u64) -> Vec<u8> {
     let mut image = vec![0; IMAGE_BYTES];
     if let Some(words) = words(bytes) {
@@ -40,7 +41,7 @@ fn step_late(words: &[u16], machine: Machine, image: &mut [u8]) -> Outcome {
     let (x, y) = match machine.mode {
         GRAPH_X if is_data(words, machine.counter) => (machine.x, machine.y + growth),
         GRAPH_Y if is_data(words, machine.counter) => (machine.x + growth, machine.y),
-        _ => return step(words, machine, image),
+        _ => return step(words, machine, image, &[]),
     };
     let grown = Machine {
         x,
@@ -48,7 +49,7 @@ fn step_late(words: &[u16], machine: Machine, image: &mut [u8]) -> Outcome {
         increment: 0,
         ..machine
     };
-    let mut outcome = step(words, grown, image);
+    let mut outcome = step(words, grown, image, &[]);
     outcome.machine.increment = machine.increment;
     outcome
 }
@@ -82,14 +83,17 @@ mod tests {
     #[test]
     fn graph_y_is_one_increment_too_far_right() {
         let bytes = graph(0o124000);
-        assert_eq!(lit(&picture(&bytes, USUAL_BUDGET)), [(8, 64), (5, 32)]);
+        assert_eq!(lit(&picture(&bytes, USUAL_BUDGET, &[])), [(8, 64), (5, 32)]);
         assert_eq!(lit(&fault(&bytes, USUAL_BUDGET)), [(11, 64), (8, 32)]);
     }
 
     #[test]
     fn graph_x_is_one_increment_too_high() {
         let bytes = graph(0o120000);
-        assert_eq!(lit(&picture(&bytes, USUAL_BUDGET)), [(64, 13), (32, 10)]);
+        assert_eq!(
+            lit(&picture(&bytes, USUAL_BUDGET, &[])),
+            [(64, 13), (32, 10)]
+        );
         assert_eq!(lit(&fault(&bytes, USUAL_BUDGET)), [(64, 16), (32, 13)]);
     }
 
@@ -97,7 +101,7 @@ mod tests {
     fn without_a_graph_nothing_differs() {
         let bytes = bytes_of(&[1, 1, 4, 4, 0o113400, 0o040006, 4, 0o172000]);
         for budget in [0, 1, 2, USUAL_BUDGET] {
-            assert_eq!(fault(&bytes, budget), picture(&bytes, budget));
+            assert_eq!(fault(&bytes, budget), picture(&bytes, budget, &[]));
         }
     }
 

@@ -1,12 +1,12 @@
 //! Random inputs for the program `plot`, each with its line: the files of `cases`, and what is too
-//! much for the reader of those: pictures with many stores, loops that draw until the budget is
-//! used, files spoilt byte by byte, and inputs at the edges of the size that is taken.
+//! much for the reader of those: pictures and text with many stores, loops that draw until the
+//! budget is used, files spoilt byte by byte, and inputs at the edges of the size that is taken.
 
 use std::iter;
 
 use crate::cases::{
-    bytes_of, case, control, laid_out, noise, program, Case, Random, ABSOLUTE_POINT, DATA, JUMP,
-    LONG_VECTOR, SHORT_VECTOR,
+    bytes_of, case, control, laid_out, noise, program, Case, Random, ABSOLUTE_POINT, CHARACTERS,
+    DATA, JUMP, LONG_VECTOR, SHORT_VECTOR,
 };
 use crate::plot::{plot, INPUT_LIMIT};
 
@@ -54,7 +54,8 @@ fn file(random: &mut Random) -> Vec<u8> {
         0..=64 => case(random).bytes,
         65..=74 => bytes_of(&program(random)),
         75..=80 => bytes_of(&noise(random)),
-        81..=84 => bytes_of(&picture(random)),
+        81..=83 => bytes_of(&picture(random)),
+        84 => bytes_of(&page(random)),
         85..=94 => spoilt(random),
         95..=97 => filled_up(random),
         _ => (0..random.below(300))
@@ -73,6 +74,21 @@ fn picture(random: &mut Random) -> Vec<u16> {
     for _ in 0..1 + random.below(4) {
         // Two words for a long vector, and two vectors where they are short.
         words.extend([random.word() & DATA, random.word() & DATA]);
+    }
+    words.extend([control(JUMP), 0]);
+    laid_out(random, 1, vec![(0, words)])
+}
+
+/// Lines of characters over each other, until there is no budget left.
+fn page(random: &mut Random) -> Vec<u16> {
+    let mut words = Vec::new();
+    for _ in 0..1 + random.below(4) {
+        words.push(control(ABSOLUTE_POINT));
+        words.extend([random.below(1_024), random.below(1_024)]);
+        words.push(control(CHARACTERS) | random.below(8) << 8);
+        for _ in 0..1 + random.below(12) {
+            words.push(random.good_characters());
+        }
     }
     words.extend([control(JUMP), 0]);
     laid_out(random, 1, vec![(0, words)])
@@ -124,7 +140,11 @@ mod tests {
     fn every_answer_of_plot_occurs() {
         for seed in [1, 2] {
             let files = first(seed, 2_000);
-            for answer in [0, 1, 2, 12, 13, 14, 15, 19].into_iter().chain(21..=27) {
+            for answer in [0, 1, 2, 12, 13, 14, 15, 19]
+                .into_iter()
+                .chain(21..=27)
+                .chain([32])
+            {
                 let found = files.iter().filter(|file| file.line.answer == answer);
                 let times = found.count();
                 assert!(times >= 10, "answer {} occurs {} times", answer, times);

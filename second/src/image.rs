@@ -1,6 +1,7 @@
 //! The image memory: 512 by 512 pixels of two bits, four to a byte, lowest row first.
 
 use crate::answer::{Answer, Door};
+use crate::characters::Cell;
 use crate::unit::{Pixel, Place};
 
 /// The size of every image.
@@ -10,6 +11,10 @@ const SIDE: i64 = 512;
 const PIXELS_IN_BYTE: i64 = 4;
 const DIGIT_BITS: i64 = 2;
 const DIGIT: u8 = 3;
+
+const CELL_SIDE: i64 = 8;
+/// The bit of a row's leftmost pixel.
+const LEFTMOST: u8 = 0x80;
 
 /// A lent image of the right size.
 pub(crate) struct Image<'a> {
@@ -33,6 +38,23 @@ impl<'a> Image<'a> {
             }
             None => false,
         }
+    }
+
+    /// Stores a pixel value for each bit of a character, whose lower left corner is at a place, and
+    /// counts those in the field.
+    pub(crate) fn store_cell(&mut self, corner: Place, cell: &Cell, value: u8) -> u64 {
+        let mut stores = 0;
+        let mut y = corner.y + Pixel(CELL_SIDE);
+        for row in cell {
+            y = y - Pixel(1);
+            for column in 0..CELL_SIDE {
+                if row & LEFTMOST >> column != 0 {
+                    let x = corner.x + Pixel(column);
+                    stores += u64::from(self.store(Place { x, y }, value));
+                }
+            }
+        }
+        stores
     }
 }
 
@@ -93,6 +115,42 @@ mod tests {
             let mut expected = vec![0b_01_10_11_01; IMAGE_BYTES];
             expected[257] = 0b_01_00_11_01 | value << 4;
             assert!(bytes == expected, "value {}", value);
+        }
+    }
+
+    #[test]
+    fn a_cell_has_its_top_row_first_and_its_lower_left_at_the_corner() {
+        let mut bytes = vec![0b_01_10_11_01; IMAGE_BYTES];
+        let mut image = Image::lend(&mut bytes).expect("the size is right");
+        // Columns 0 and 7 of the top row, column 4 of the fourth, column 1 of the lowest.
+        let cell = [0x81, 0, 0, 0x08, 0, 0, 0, 0x40];
+        assert_eq!(image.store_cell(place(5, 2), &cell, 2), 4);
+        let mut expected = vec![0b_01_10_11_01; IMAGE_BYTES];
+        for (x, y) in [(5, 9), (12, 9), (9, 6), (6, 2)] {
+            let (byte, shift) = locate(place(x, y)).expect("in the field");
+            expected[byte] = expected[byte] & !(3 << shift) | 2 << shift;
+        }
+        assert!(bytes == expected);
+    }
+
+    #[test]
+    fn a_cell_is_cut_at_the_edges_of_the_field() {
+        let mut bytes = vec![0; IMAGE_BYTES];
+        let mut image = Image::lend(&mut bytes).expect("the size is right");
+        for (x, y, stores) in [
+            (-8, 0, 0),
+            (-7, 0, 8),
+            (-3, -2, 30),
+            (0, -7, 8),
+            (0, -8, 0),
+            (504, 504, 64),
+            (505, 504, 56),
+            (511, 511, 1),
+            (512, 504, 0),
+            (504, 512, 0),
+        ] {
+            let stored = image.store_cell(place(x, y), &[0xFF; 8], 3);
+            assert_eq!(stored, stores, "({}, {})", x, y);
         }
     }
 

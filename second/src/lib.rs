@@ -5,6 +5,7 @@
 
 mod answer;
 pub mod cases;
+mod characters;
 pub mod fault;
 mod file;
 pub mod files;
@@ -21,6 +22,7 @@ pub mod vector;
 mod word;
 
 pub use answer::{Answer, Door, Fault};
+pub use characters::{BUILT_IN, SET_BYTES};
 pub use file::check;
 pub use image::{clear, read_pixel, IMAGE_BYTES};
 pub use machine::{fresh, start, Machine, NO_MODE};

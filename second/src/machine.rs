@@ -17,7 +17,7 @@ pub struct Machine {
     pub counter: u16,
     pub x: Unit,
     pub y: Unit,
-    /// 1 to 6, or `NO_MODE`.
+    /// 0 to 6, or `NO_MODE`.
     pub mode: u8,
     /// The pixel value, 0 to 3.
     pub value: u8,
@@ -27,7 +27,8 @@ pub struct Machine {
     pub latch: u8,
     /// The graph increment, 0 to 63.
     pub increment: u8,
-    /// 0 while it runs, 1 or 2 after a stop without or with interrupt, 21 to 27 after a refusal.
+    /// 0 while it runs, 1 or 2 after a stop without or with interrupt, 21 to 27 or 32 after a
+    /// refusal.
     pub status: u8,
 }
 
@@ -128,6 +129,7 @@ impl Status {
             25 => Status::Faulted(Fault::NoMode),
             26 => Status::Faulted(Fault::SecondWord),
             27 => Status::Faulted(Fault::PositionRange),
+            32 => Status::Faulted(Fault::CharacterCode),
             _ => return Err(Door::MachineField),
         })
     }
@@ -183,8 +185,8 @@ mod tests {
 
     #[test]
     fn the_record_and_its_checked_form_hold_the_same() {
-        for status in [0, 1, 2, 21, 22, 23, 24, 25, 26, 27] {
-            for mode in [NO_MODE, 1, 2, 3, 4, 5, 6] {
+        for status in [0, 1, 2, 21, 22, 23, 24, 25, 26, 27, 32] {
+            for mode in [NO_MODE, 0, 1, 2, 3, 4, 5, 6] {
                 for switches in 0..4 {
                     let machine = Machine {
                         counter: 65_535,

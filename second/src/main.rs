@@ -1,6 +1,7 @@
 //! The command: `second plot` reads a display file and prints its line,
-//! `second picture [BUDGET]` and `second fault [BUDGET]` write its screen as a PGM, right and with
-//! the old fault,
+//! `second picture [BUDGET [SET]]` and `second fault [BUDGET]` write its screen as a PGM, right and
+//! with the old fault; SET is a file that holds a set of characters to lend,
+//! `second set` writes the built-in set of characters,
 //! `second cases SEED COUNT` prints random files with theirs and the pixels that they store,
 //! `second files SEED COUNT DIR` writes random files and a list of their lines,
 //! `second parts SEED DIR [COUNT]` writes cases for the parts of an implementation, and
@@ -19,19 +20,20 @@ use second::parts::{parts, USUAL_COUNT};
 use second::picture::{picture, USUAL_BUDGET};
 use second::plot::{plot, INPUT_LIMIT};
 use second::replay::{self, replay};
-use second::BUDGET_LIMIT;
-
-/// From the bytes of a file and a budget to a PGM.
-type Screen = fn(&[u8], u64) -> Vec<u8>;
+use second::{BUDGET_LIMIT, BUILT_IN, SET_BYTES};
 
 /// What the arguments ask for.
 enum Task {
     Plot,
-    /// A screen, by the function that draws it, in so many steps.
-    Screen {
-        screen: Screen,
+    Picture {
+        budget: u64,
+        /// The file of the lent set.
+        set: Option<PathBuf>,
+    },
+    Fault {
         budget: u64,
     },
+    Set,
     Cases {
         seed: u64,
         count: usize,
@@ -58,8 +60,10 @@ fn main() -> ExitCode {
         Some(task) => task,
         None => {
             eprintln!(
-                "Call it as `second plot`, `second picture [BUDGET]` or `second fault [BUDGET]`, \
-                 with a display file on standard input and a budget of at most {} steps, \
+                "Call it as `second plot`, `second picture [BUDGET [SET]]` or \
+                 `second fault [BUDGET]`, with a display file on standard input, a budget of at \
+                 most {} steps and the path of a character set, \
+                 as `second set`, which writes the built-in set, \
                  as `second cases SEED COUNT`, with two whole numbers, \
                  as `second files SEED COUNT DIR`, with a folder to write to, \
                  or as `second parts SEED DIR [COUNT]` or `second replay SEED DIR [COUNT]`, \
@@ -71,7 +75,9 @@ fn main() -> ExitCode {
     };
     let done = match task {
         Task::Plot => plot_standard_input(),
-        Task::Screen { screen, budget } => draw_standard_input(screen, budget),
+        Task::Picture { budget, set } => draw_picture(budget, set.as_deref()),
+        Task::Fault { budget } => draw_fault(budget),
+        Task::Set => io::stdout().write_all(&BUILT_IN),
         Task::Cases { seed, count } => print_cases(seed, count),
         Task::Files {
             seed,
@@ -103,22 +109,25 @@ fn task() -> Option<Task> {
     let arguments: Option<Vec<_>> = arguments.iter().map(|word| word.to_str()).collect();
     match arguments?.as_slice() {
         ["plot"] => Some(Task::Plot),
-        ["picture"] => Some(Task::Screen {
-            screen: picture,
+        ["picture"] => Some(Task::Picture {
+            budget: USUAL_BUDGET,
+            set: None,
+        }),
+        ["picture", steps] => Some(Task::Picture {
+            budget: budget(steps)?,
+            set: None,
+        }),
+        ["picture", steps, set] => Some(Task::Picture {
+            budget: budget(steps)?,
+            set: Some(PathBuf::from(set)),
+        }),
+        ["fault"] => Some(Task::Fault {
             budget: USUAL_BUDGET,
         }),
-        ["picture", steps] => Some(Task::Screen {
-            screen: picture,
+        ["fault", steps] => Some(Task::Fault {
             budget: budget(steps)?,
         }),
-        ["fault"] => Some(Task::Screen {
-            screen: fault,
-            budget: USUAL_BUDGET,
-        }),
-        ["fault", steps] => Some(Task::Screen {
-            screen: fault,
-            budget: budget(steps)?,
-        }),
+        ["set"] => Some(Task::Set),
         ["cases", seed, count] => Some(Task::Cases {
             seed: seed.parse().ok()?,
             count: count.parse().ok()?,
@@ -166,15 +175,26 @@ fn plot_standard_input() -> io::Result<()> {
     writeln!(io::stdout(), "{}", plot(&standard_input()?))
 }
 
-fn draw_standard_input(screen: Screen, budget: u64) -> io::Result<()> {
-    io::stdout().write_all(&screen(&standard_input()?, budget))
+fn draw_picture(budget: u64, set: Option<&Path>) -> io::Result<()> {
+    let set = match set {
+        Some(path) => at_most(SET_BYTES, fs::File::open(path)?)?,
+        None => Vec::new(),
+    };
+    io::stdout().write_all(&picture(&standard_input()?, budget, &set))
+}
+
+fn draw_fault(budget: u64) -> io::Result<()> {
+    io::stdout().write_all(&fault(&standard_input()?, budget))
 }
 
 fn standard_input() -> io::Result<Vec<u8>> {
+    at_most(INPUT_LIMIT, io::stdin().lock())
+}
+
+/// All bytes of an input, or one more than the limit, which is enough to see that it is too long.
+fn at_most(limit: usize, input: impl Read) -> io::Result<Vec<u8>> {
     let mut bytes = Vec::new();
-    // One byte past the limit is enough to see that the input is too long.
-    let most = INPUT_LIMIT as u64 + 1;
-    io::stdin().lock().take(most).read_to_end(&mut bytes)?;
+    input.take(limit as u64 + 1).read_to_end(&mut bytes)?;
     Ok(bytes)
 }
 

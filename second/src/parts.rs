@@ -14,11 +14,13 @@
 //! 3 file: 2 number of words, 16 bits; 4 six addresses, 16 bits each; the words after the head.
 //!   Record of 19: 0 answer of the check; where that is 0, from 1 on for each address
 //!   the number of its refusal and its word, 16 bits.
-//! 4 word: 2 the word. Record of 100: an account of 13 in each of the modes 1 to 6 and none;
-//!   91 move of a long vector i; 95 coordinate i; 99 refusal as a second word.
+//! 4 word: 2 the word. Record of 113: an account of 13 in each of the modes 1 to 6 and none;
+//!   91 move of a long vector i; 95 coordinate i; 99 refusal as a second word;
+//!   100 an account of 13 in mode 0.
 //!   Account: 0 refusal, and where it is not 0 nothing else; 1 kind, from 1 on: set mode, jump,
-//!   no-op, status A, increment, status C, then the items of the modes 1 to 6;
-//!   5 X i, 9 Y i, where there is none the number 0. Of an item: 2 lit.
+//!   no-op, status A, increment, status C, then the items of the modes 1 to 6 and of mode 0;
+//!   5 X i, 9 Y i, where there is none the number 0. Of an item: 2 lit. Of characters, which are
+//!   always lit, X is the first code and Y the second.
 //!   Of an order: 2 whether it sets something (status C: in channel 0), 3 to what, if so;
 //!   4 the mode, or whether it stops.
 //! 5 vector: 2 value; 4, 6 X and Y of the first pixel, 8, 10 of the last, with 2,048 added.
@@ -28,6 +30,7 @@
 use std::collections::BTreeMap;
 use std::fmt;
 
+use crate::answer::Fault;
 use crate::cases::Random;
 use crate::file::{check, File};
 use crate::image::{clear, locate, read_pixel, Image, IMAGE_BYTES};
@@ -41,6 +44,7 @@ pub const USUAL_COUNT: usize = 100_000;
 
 const WORDS: usize = 65_536;
 const MODES: [u8; 7] = [1, 2, 3, 4, 5, 6, NO_MODE];
+const CHARACTERS: u8 = 0;
 const SIDE: i32 = 512;
 const ADDRESSES: usize = 6;
 const SEGMENT_WORDS: usize = 4_096;
@@ -658,16 +662,17 @@ fn word_case(parts: &mut Parts, word: u16) {
     );
     let refusal = half.complete(word).err().map_or(0, |fault| fault as u8);
     parts.saw(part, format!("second {}", refusal));
-    let record = record
+    let mut record = record
         .signed(word::long_move(word).0)
         .signed(word::coordinate(word).0)
         .byte(refusal);
-    parts.case(part, &case, &record.padded(100));
+    record.0.extend(account(parts, CHARACTERS, word));
+    parts.case(part, &case, &record.padded(113));
 }
 
 fn account(parts: &mut Parts, mode: u8, word: u16) -> Vec<u8> {
     let (name, bytes) = match word::decode(word, Mode::from_number(mode)) {
-        Err(fault) => refused(fault as u8),
+        Err(fault) => refused(fault),
         Ok(First::Whole(instruction)) => whole(instruction),
         Ok(First::Half(half)) => first(half),
     };
@@ -675,9 +680,13 @@ fn account(parts: &mut Parts, mode: u8, word: u16) -> Vec<u8> {
     bytes.padded(13)
 }
 
-fn refused(number: u8) -> (&'static str, Bytes) {
-    let name = if number == 24 { "first 24" } else { "first 25" };
-    (name, Bytes::default().byte(number))
+fn refused(fault: Fault) -> (&'static str, Bytes) {
+    let name = match fault {
+        Fault::CodeNotBuilt => "first 24",
+        Fault::CharacterCode => "first 32",
+        _ => "first 25",
+    };
+    (name, Bytes::default().byte(fault as u8))
 }
 
 fn whole(instruction: Instruction) -> (&'static str, Bytes) {
@@ -698,6 +707,10 @@ fn whole(instruction: Instruction) -> (&'static str, Bytes) {
         Instruction::GraphY { lit, y } => ("first 0, graph Y", item(11, lit, still, y)),
         Instruction::RelativePoint { lit, dx, dy } => {
             ("first 0, relative point", item(12, lit, dx, dy))
+        }
+        Instruction::Characters { codes } => {
+            let [x, y] = codes.map(|code| Unit(code.number().into()));
+            ("first 0, characters", item(13, true, x, y))
         }
         Instruction::Jump { .. } | Instruction::AbsolutePoint { .. } => {
             unreachable!("it has a second word")
@@ -945,7 +958,7 @@ mod tests {
     fn every_case_and_record_has_its_length_and_place() {
         let parts = parts(3, 1_000);
         let (mut cases, mut records) = (0, 0);
-        for (kind, record) in [(1, 24), (2, 4), (3, 19), (4, 100), (5, 4), (6, 4)] {
+        for (kind, record) in [(1, 24), (2, 4), (3, 19), (4, 113), (5, 4), (6, 4)] {
             for (case, expected) in of_kind(&parts, kind) {
                 let words = if kind == 3 { word_at(case, 2) } else { 0 };
                 assert_eq!(case.len(), HEAD + 2 * usize::from(words));
@@ -1011,6 +1024,7 @@ mod tests {
                 &[
                     "first 24",
                     "first 25",
+                    "first 32",
                     "first 0, set mode",
                     "first 0, jump",
                     "first 0, no-op",
@@ -1023,6 +1037,7 @@ mod tests {
                     "first 0, graph X",
                     "first 0, graph Y",
                     "first 0, relative point",
+                    "first 0, characters",
                     "second 0",
                     "second 26",
                 ],
@@ -1089,6 +1104,25 @@ mod tests {
             .iter()
             .map(|(case, _)| word_at(case, 2))
             .eq(0..=u16::MAX));
+    }
+
+    #[test]
+    fn the_account_of_mode_0_stands_behind_the_others() {
+        let mut parts = Parts::default();
+        for word in [0o030465, 0o030665, 0o030400, 0o100000, 0o103400, 0o077440] {
+            word_case(&mut parts, word);
+        }
+        let accounts: Vec<&[u8]> = of_kind(&parts, 4)
+            .into_iter()
+            .map(|(_, record)| &record[100..])
+            .collect();
+        // The digits 5 and 1, with bit 7 too; a first half of 0; mode 0, and with value 3; and a
+        // second half of 127.
+        let digits = [0, 13, 1, 0, 0, 53, 0, 0, 128, 49, 0, 0, 128];
+        let refused = [32, 0, 0, 0, 0, 0, 0, 0, 0, 0, 0, 0, 0];
+        let mode = [0, 1, 0, 0, 0, 0, 0, 0, 128, 0, 0, 0, 128];
+        let valued = [0, 1, 1, 3, 0, 0, 0, 0, 128, 0, 0, 0, 128];
+        assert_eq!(accounts, [digits, digits, refused, mode, valued, refused]);
     }
 
     #[test]

@@ -11,11 +11,12 @@ pub const USUAL_BUDGET: u64 = 32_768;
 
 const SIDE: i64 = 512;
 
-/// The screen that a display file draws in so many steps.
-pub fn picture(bytes: &[u8], budget: u64) -> Vec<u8> {
+/// The screen that a display file draws in so many steps, with a lent set of characters or, where it
+/// is empty, the built-in one.
+pub fn picture(bytes: &[u8], budget: u64, set: &[u8]) -> Vec<u8> {
     let mut image = vec![0; IMAGE_BYTES];
     if let Some(words) = words(bytes) {
-        run(&words, fresh(), &mut image, budget);
+        run(&words, fresh(), &mut image, budget, set);
     }
     pgm(&image)
 }
@@ -63,7 +64,7 @@ mod tests {
             1, 1, 4, 10, 0o117000, 0o040000, 0, 0o116400, 0o041777, 0, 0o117400, 0o040000, 0o1777,
             0o172000,
         ];
-        let picture = picture(&bytes_of(&words), USUAL_BUDGET);
+        let picture = picture(&bytes_of(&words), USUAL_BUDGET, &[]);
         assert_eq!(&picture[..HEADER], b"P5\n512 512\n3\n");
         assert_eq!(picture.len(), HEADER + 262_144);
         assert_eq!(digits(&picture), [(0, 3), (261_632, 2), (262_143, 1)]);
@@ -78,8 +79,8 @@ mod tests {
         words.extend([0o164000; 8_190]);
         words.extend([0o104000, 0o040000]);
         let bytes = bytes_of(&words);
-        assert_eq!(digits(&picture(&bytes, USUAL_BUDGET)), [(261_632, 3)]);
-        assert!(digits(&picture(&bytes, USUAL_BUDGET - 1)).is_empty());
+        assert_eq!(digits(&picture(&bytes, USUAL_BUDGET, &[])), [(261_632, 3)]);
+        assert!(digits(&picture(&bytes, USUAL_BUDGET - 1, &[])).is_empty());
     }
 
     #[test]
@@ -91,10 +92,10 @@ mod tests {
         let bytes = bytes_of(&words);
         let points = [(261_633, 3), (261_634, 3), (261_635, 3), (261_636, 3)];
         for (budget, count) in [(998, 0), (999, 1), (1_000, 2), (1_001, 3), (1_002, 4)] {
-            let drawn = digits(&picture(&bytes, budget));
+            let drawn = digits(&picture(&bytes, budget, &[]));
             assert_eq!(drawn, points[..count], "{}", budget);
         }
-        assert_eq!(digits(&picture(&bytes, BUDGET_LIMIT)), points);
+        assert_eq!(digits(&picture(&bytes, BUDGET_LIMIT, &[])), points);
         // `plot` ends after the same step as a picture of 1,000
         let line = plot(&bytes);
         assert_eq!((line.steps, line.stores), (1_000, 2));
@@ -106,8 +107,8 @@ mod tests {
         let refused = [2, 1, 4, 3, 0o104000, 0o040000, 0o172000];
         for (words, count) in [(sound, 1), (refused, 0)] {
             let bytes = bytes_of(&words);
-            assert!(digits(&picture(&bytes, 0)).is_empty());
-            assert_eq!(digits(&picture(&bytes, USUAL_BUDGET)).len(), count);
+            assert!(digits(&picture(&bytes, 0, &[])).is_empty());
+            assert_eq!(digits(&picture(&bytes, USUAL_BUDGET, &[])).len(), count);
         }
     }
 
@@ -115,7 +116,7 @@ mod tests {
     fn an_input_that_no_file_has_leaves_the_screen_blank() {
         for size in [0, 1, 3, 65_537, 65_538] {
             for budget in [0, 1_000, USUAL_BUDGET] {
-                let picture = picture(&vec![0; size], budget);
+                let picture = picture(&vec![0; size], budget, &[]);
                 assert!(digits(&picture).is_empty(), "{} {}", size, budget);
             }
         }

@@ -27,7 +27,7 @@ pub struct Line {
     pub y: i64,
 }
 
-/// Runs a fresh machine on the file that the bytes spell.
+/// Runs a fresh machine on the file that the bytes spell, with the built-in characters.
 pub fn plot(bytes: &[u8]) -> Line {
     if bytes.len() % 2 == 1 || bytes.len() > INPUT_LIMIT {
         return Line::refused(Door::PlotInput);
@@ -37,7 +37,7 @@ pub fn plot(bytes: &[u8]) -> Line {
         .map(|pair| u16::from_le_bytes([pair[0], pair[1]]))
         .collect();
     let mut image = vec![0; IMAGE_BYTES];
-    let outcome = run(&words, fresh(), &mut image, BUDGET);
+    let outcome = run(&words, fresh(), &mut image, BUDGET, &[]);
     if let Answer::Refused(door) = outcome.answer {
         return Line::refused(door);
     }
@@ -55,7 +55,7 @@ pub fn plot(bytes: &[u8]) -> Line {
 /// The pixels that this run stores, one for each store, in the order of the stores.
 pub fn stored(bytes: &[u8]) -> Vec<Place> {
     match words(bytes) {
-        Some(words) => stores(&words, fresh(), BUDGET),
+        Some(words) => stores(&words, fresh(), BUDGET, &[]),
         None => Vec::new(),
     }
 }

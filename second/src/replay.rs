@@ -7,14 +7,14 @@
 //! 0 kind: 1 check, 2 fresh, 3 start, 4 step, 5 run, 6 clear, 7 read_pixel; 1 mode; 2 value;
 //! 3 write; 4 latch; 5 increment; 6 status; 7 is 0; 8 counter, 16 bits; 10 address to start at,
 //! 16 bits; 12 X i; 16 Y i; 20 budget, 32 bits; 24 and 28 X and Y of the pixel to read i;
-//! 32 length of the image, 32 bits; 36 its seed, 32 bits; 40 number of words, 16 bits.
+//! 32 length of the image, 32 bits; 36 its seed, 32 bits; 40 number of words, 16 bits;
+//! 48 length of the lent character set, 16 bits, at most 1,024; 52 its seed, 32 bits.
 //!
 //! The rest is 0, with a place for what is not built: 42 ones only; 43 shape; 44 saved counter,
-//! 32 bits; 48 length of a lent character set, 16 bits; 50 pressed; 52 seed of the set, 32 bits;
-//! 56 and 60 X and Y of a crosshair i.
+//! 32 bits; 50 pressed; 56 and 60 X and Y of a crosshair i.
 //!
 //! For each byte of the image a number, 0 at first, becomes 69,069 times itself and the seed, in
-//! 32 bits; the byte is its highest eight bits.
+//! 32 bits; the byte is its highest eight bits. The bytes of the set come from its seed likewise.
 //!
 //! A line: answer, steps, words, stores, counter, X, Y, mode, value, write, latch, increment,
 //! status, the digit that was read, and the digest of the image after the call. A call that gives
@@ -25,7 +25,7 @@ use std::fmt;
 use crate::cases::{case, control, noise, program, Random, DATA};
 use crate::{
     check, clear, fresh, read_pixel, run, start, step, Machine, Outcome, Pixel, Unit, IMAGE_BYTES,
-    NO_MODE,
+    NO_MODE, SET_BYTES,
 };
 
 mod listed;
@@ -39,8 +39,13 @@ pub const USUAL_COUNT: usize = 3_000;
 /// A reader of the cases may be slow: none that came by chance stores more.
 const MOST_STORES: u64 = 20_000;
 
-/// The bytes of a case before its words.
+/// The bytes of a case before its words, and where the lent set stands in them.
 const HEAD: usize = 64;
+const SET_LENGTH_AT: usize = 48;
+const SET_SEED_AT: usize = 52;
+
+/// The most bytes of a lent set that a reader of the cases has room for.
+const MOST_SET_BYTES: usize = 1_024;
 
 /// The most words of a segment.
 const SEGMENT: usize = 4_096;
@@ -104,6 +109,8 @@ struct Case {
     pixel: (i32, i32),
     image_length: usize,
     image_seed: u32,
+    set_length: usize,
+    set_seed: u32,
     file: Vec<u16>,
 }
 
@@ -142,20 +149,22 @@ impl Case {
         bytes.extend((self.image_length as u32).to_le_bytes());
         bytes.extend(self.image_seed.to_le_bytes());
         bytes.extend((self.file.len() as u16).to_le_bytes());
+        bytes.resize(SET_LENGTH_AT, 0);
+        bytes.extend((self.set_length as u16).to_le_bytes());
+        bytes.resize(SET_SEED_AT, 0);
+        bytes.extend(self.set_seed.to_le_bytes());
         bytes.resize(HEAD, 0);
         bytes.extend(self.file.iter().flat_map(|word| word.to_le_bytes()));
         bytes
     }
 
     fn image(&self) -> Vec<u8> {
-        let mut mixed: u32 = 0;
-        let next = || {
-            mixed = mixed.wrapping_mul(69_069).wrapping_add(self.image_seed);
-            (mixed >> 24) as u8
-        };
-        std::iter::repeat_with(next)
-            .take(self.image_length)
-            .collect()
+        grown(self.image_length, self.image_seed)
+    }
+
+    fn set(&self) -> Vec<u8> {
+        assert!(self.set_length <= MOST_SET_BYTES);
+        grown(self.set_length, self.set_seed)
     }
 
     fn told(&self) -> Told {
@@ -177,10 +186,16 @@ impl Case {
                 told.answer = answer.number();
                 told.machine = machine;
             }
-            Call::Step => told.ran(step(&self.file, self.machine, &mut image)),
+            Call::Step => told.ran(step(&self.file, self.machine, &mut image, &self.set())),
             Call::Run => {
                 let budget = u64::from(self.budget);
-                told.ran(run(&self.file, self.machine, &mut image, budget));
+                told.ran(run(
+                    &self.file,
+                    self.machine,
+                    &mut image,
+                    budget,
+                    &self.set(),
+                ));
             }
             Call::Clear => told.answer = clear(&mut image).number(),
             Call::ReadPixel => {
@@ -230,6 +245,16 @@ impl fmt::Display for Told {
     }
 }
 
+/// So many bytes from a seed.
+fn grown(length: usize, seed: u32) -> Vec<u8> {
+    let mut mixed: u32 = 0;
+    let next = || {
+        mixed = mixed.wrapping_mul(69_069).wrapping_add(seed);
+        (mixed >> 24) as u8
+    };
+    std::iter::repeat_with(next).take(length).collect()
+}
+
 fn signed(number: i64) -> [u8; 4] {
     let moved = u32::try_from(number + (1 << 31)).expect("the number has 32 bits");
     moved.to_le_bytes()
@@ -240,7 +265,8 @@ fn digest(bytes: &[u8]) -> u32 {
     bytes.iter().fold(1, next) as u32
 }
 
-/// A call on a fresh machine, an image of chance and a file that stops at once.
+/// A call on a fresh machine, an image of chance, a set that is lent or not, and a file that stops
+/// at once.
 fn usual(random: &mut Random, call: Call) -> Case {
     Case {
         call,
@@ -249,13 +275,15 @@ fn usual(random: &mut Random, call: Call) -> Case {
         budget: 1_000,
         pixel: (0, 0),
         image_length: IMAGE_BYTES,
-        image_seed: image_seed(random),
+        image_seed: seed(random),
+        set_length: if random.chance(50) { 0 } else { SET_BYTES },
+        set_seed: seed(random),
         file: one_segment(vec![control(14) | 1 << 10]),
     }
 }
 
 /// Zeros at times, else an odd number, which gives all bytes.
-fn image_seed(random: &mut Random) -> u32 {
+fn seed(random: &mut Random) -> u32 {
     if random.chance(20) {
         0
     } else {
@@ -272,6 +300,15 @@ fn one_segment(words: Vec<u16>) -> Vec<u16> {
 // ---- what comes by chance
 
 fn any(random: &mut Random) -> Case {
+    let mut case = any_call(random);
+    if !matches!(case.call, Call::Step | Call::Run) && random.chance(50) {
+        // These calls take no set, so that it cannot be wrong.
+        case.set_length = wrong_length(random);
+    }
+    case
+}
+
+fn any_call(random: &mut Random) -> Case {
     match random.below(100) {
         0..=4 => {
             let mut case = usual(random, Call::Check);
@@ -315,6 +352,9 @@ fn any_step(random: &mut Random) -> Case {
     } else {
         first
     };
+    if random.chance(2) {
+        case.set_length = wrong_length(random);
+    }
     let second = random.word();
     let second = if random.chance(80) {
         second & DATA
@@ -370,10 +410,11 @@ fn any_run(random: &mut Random) -> Case {
         }
         match random.below(50) {
             0..=1 => case.machine = spoilt(random),
-            2 => case.machine.status = random.pick(&[1, 2, 21, 22, 23, 24, 25, 26, 27]) as u8,
+            2 => case.machine.status = random.pick(&[1, 2, 21, 22, 23, 24, 25, 26, 27, 32]) as u8,
             3 => case.image_length = usize::from(random.below(65_535)),
             4 => case.budget = 1_000_001,
-            5..=24 => {
+            5 => case.set_length = wrong_length(random),
+            6..=25 => {
                 case.budget = u32::from(random.pick(&[0, 1, 2, 3, 5, 10, 100]));
             }
             _ => {}
@@ -414,13 +455,22 @@ fn any_file(random: &mut Random) -> Vec<u16> {
     }
 }
 
+/// The length of a set that a run does not take, often near the one that it takes.
+fn wrong_length(random: &mut Random) -> usize {
+    let any = random.between(1, MOST_SET_BYTES as u16);
+    match random.pick(&[1, 8, 759, 761, 1_024, any]) {
+        760 => 752,
+        length => length.into(),
+    }
+}
+
 /// A running machine at address 0, every field in its range.
 fn ranged(random: &mut Random) -> Machine {
     Machine {
         counter: 0,
         x: any_unit(random),
         y: any_unit(random),
-        mode: random.pick(&[1, 2, 3, 4, 5, 6, NO_MODE.into()]) as u8,
+        mode: random.pick(&[0, 1, 2, 3, 4, 5, 6, NO_MODE.into()]) as u8,
         value: random.below(4) as u8,
         write: u8::from(random.chance(80)),
         latch: random.below(2) as u8,
@@ -442,7 +492,7 @@ fn spoilt(random: &mut Random) -> Machine {
         4 => machine.write = number % 4,
         5 => machine.latch = number % 4,
         6 => machine.increment = number,
-        7 => machine.status = number % 32,
+        7 => machine.status = number % 40,
         _ => machine.counter = random.word(),
     }
     machine
@@ -520,13 +570,57 @@ mod tests {
         case.machine.y = Unit(i32::MAX.into());
         case.pixel = (i32::MIN, 5);
         case.image_seed = 0x0A0B_0C0D;
+        case.set_length = 0x0102;
+        case.set_seed = 0x0304_0506;
         case.file = vec![0x1234];
         let bytes = [
             7, 255, 3, 1, 0, 0, 0, 0, 1, 2, 0, 0, 255, 255, 255, 127, 255, 255, 255, 255, 232, 3,
-            0, 0, 0, 0, 0, 0, 5, 0, 0, 128, 0, 0, 1, 0, 13, 12, 11, 10, 1, 0, 0, 0, 0, 0, 0, 0, 0, 0, 0,
-            0, 0, 0, 0, 0, 0, 0, 0, 0, 0, 0, 0, 0, 0x34, 0x12,
+            0, 0, 0, 0, 0, 0, 5, 0, 0, 128, 0, 0, 1, 0, 13, 12, 11, 10, 1, 0, 0, 0, 0, 0, 0, 0, 2,
+            1, 0, 0, 6, 5, 4, 3, 0, 0, 0, 0, 0, 0, 0, 0, 0x34, 0x12,
         ];
         assert_eq!(case.bytes(), bytes);
+    }
+
+    #[test]
+    fn a_set_comes_from_its_seed_as_the_image_from_its_own() {
+        let mut case = usual(&mut Random(1), Call::Step);
+        case.image_seed = 0x8765_4321;
+        case.set_seed = 0x8765_4321;
+        for length in [0, 1, 759, 760, 761, 1_024] {
+            case.set_length = length;
+            assert_eq!(case.set(), case.image()[..length]);
+        }
+        // The seed itself, then 69,070 times the seed in 32 bits: 0x5B05_B18E.
+        assert_eq!(case.set()[..2], [0x87, 0x5B]);
+    }
+
+    /// With the built-in set and with a lent one, each code in either half.
+    #[test]
+    fn the_listed_cases_draw_every_character() {
+        let mut drawn = vec![[[false; 2]; 128]; 2];
+        for case in listed::listed(&mut Random(1)) {
+            let lent = usize::from(case.set_length > 0);
+            if case.call != Call::Run || !matches!(case.told().answer, 1 | 2) || case.set_seed == 0
+            {
+                continue;
+            }
+            let mut machine = case.machine;
+            let (mut image, set) = (case.image(), case.set());
+            while machine.status == 0 {
+                let outcome = step(&case.file, machine, &mut image, &set);
+                let at = 4 + usize::from(machine.counter / 2);
+                if machine.mode == 0 && case.file[1] == 1 && case.file[at] <= DATA {
+                    let word = usize::from(case.file[at]);
+                    drawn[lent][word & 127][0] = true;
+                    drawn[lent][word >> 8 & 127][1] = true;
+                }
+                machine = outcome.machine;
+            }
+        }
+        for (lent, codes) in drawn.iter().enumerate() {
+            let missing = (32..=126).find(|&code| codes[code] != [true; 2]);
+            assert_eq!(missing, None, "set {}", lent);
+        }
     }
 
     #[test]

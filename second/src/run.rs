@@ -1,6 +1,7 @@
 //! Steps and runs: the doors in their order, then one instruction after another.
 
 use crate::answer::{Answer, Door, Fault};
+use crate::characters::{Code, Set, ADVANCE};
 use crate::file::File;
 use crate::image::Image;
 use crate::machine::{Machine, State, Status};
@@ -23,10 +24,11 @@ pub struct Outcome {
     pub machine: Machine,
 }
 
-/// Carries out instructions until the budget is used up or the machine no longer runs.
-pub fn run(words: &[u16], machine: Machine, image: &mut [u8], budget: u64) -> Outcome {
-    match admit(words, machine, image, budget) {
-        Ok((file, state, image)) => repeat(&file, state, image, budget),
+/// Carries out instructions until the budget is used up or the machine no longer runs. Characters
+/// are those of the lent set; where it is empty, those of the built-in one.
+pub fn run(words: &[u16], machine: Machine, image: &mut [u8], budget: u64, set: &[u8]) -> Outcome {
+    match admit(words, machine, image, budget, set) {
+        Ok((file, state, image, set)) => repeat(&file, state, image, budget, set),
         Err(door) => Outcome {
             answer: Answer::Refused(door),
             steps: 0,
@@ -38,8 +40,8 @@ pub fn run(words: &[u16], machine: Machine, image: &mut [u8], budget: u64) -> Ou
 }
 
 /// Carries out one instruction.
-pub fn step(words: &[u16], machine: Machine, image: &mut [u8]) -> Outcome {
-    run(words, machine, image, 1)
+pub fn step(words: &[u16], machine: Machine, image: &mut [u8], set: &[u8]) -> Outcome {
+    run(words, machine, image, 1, set)
 }
 
 /// The doors of a run; the order of these lines is the order of the refusals.
@@ -48,27 +50,29 @@ fn admit<'a>(
     machine: Machine,
     image: &'a mut [u8],
     budget: u64,
-) -> Result<(File<'a>, State, Image<'a>), Door> {
+    set: &'a [u8],
+) -> Result<(File<'a>, State, Image<'a>, Set<'a>), Door> {
     let image = Image::lend(image)?;
     let file = File::open(words)?;
     let state = State::try_from(machine)?;
     if budget > BUDGET_LIMIT {
         return Err(Door::Budget);
     }
+    let set = Set::choose(set)?;
     if state.status != Status::Running {
         return Err(Door::NotRunning);
     }
-    Ok((file, state, image))
+    Ok((file, state, image, set))
 }
 
-fn repeat(file: &File, mut state: State, mut image: Image, budget: u64) -> Outcome {
+fn repeat(file: &File, mut state: State, mut image: Image, budget: u64, set: Set) -> Outcome {
     let (mut steps, mut words, mut stores) = (0, 0, 0);
     while steps < budget && state.status == Status::Running {
         match prepare(file, state) {
             Ok(step) => {
                 steps += 1;
                 words += u64::from(step.words);
-                stores += draw(&step, &mut image);
+                stores += draw(&step, &mut image, set);
                 state = step.state;
             }
             Err(fault) => state.status = Status::Faulted(fault),
@@ -94,6 +98,8 @@ struct Step {
 enum Item {
     Point(Position),
     Vector(Position, Position),
+    /// Two characters, the first one at the position.
+    Characters(Position, [Code; 2]),
 }
 
 fn prepare(file: &File, mut state: State) -> Result<Step, Fault> {
@@ -144,6 +150,10 @@ fn obey(instruction: Instruction, state: &mut State) -> Result<Option<Item>, Fau
             state.write = write.unwrap_or(state.write);
             Ok(None)
         }
+        Instruction::Characters { codes } => {
+            state.position = from.moved(ADVANCE + ADVANCE, Unit(0))?;
+            Ok(Some(Item::Characters(from, codes)))
+        }
         Instruction::Vector { lit, dx, dy } => {
             state.position = from.moved(dx, dy)?;
             Ok(lighted(lit, Item::Vector(from, state.position)))
@@ -187,7 +197,7 @@ fn lighted(lit: bool, item: Item) -> Option<Item> {
 }
 
 /// Stores a step's item and counts the stores.
-fn draw(step: &Step, image: &mut Image) -> u64 {
+fn draw(step: &Step, image: &mut Image, set: Set) -> u64 {
     if !step.state.write {
         return 0;
     }
@@ -198,5 +208,13 @@ fn draw(step: &Step, image: &mut Image) -> u64 {
         Some(Item::Vector(from, to)) => vector::pixels(from.place(), to.place())
             .map(|place| u64::from(image.store(place, value)))
             .sum(),
+        Some(Item::Characters(mut at, codes)) => {
+            let mut stores = 0;
+            for code in codes {
+                stores += image.store_cell(at.place(), set.cell(code), value);
+                at.x = at.x + ADVANCE;
+            }
+            stores
+        }
     }
 }

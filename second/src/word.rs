@@ -1,11 +1,13 @@
 //! The instruction words: from one or two of them to an instruction.
 
 use crate::answer::Fault;
+use crate::characters::Code;
 use crate::unit::{Position, Unit};
 
 /// How words with bit 15 clear are taken.
 #[derive(Clone, Copy, Debug, PartialEq, Eq)]
 pub(crate) enum Mode {
+    Characters = 0,
     ShortVector = 1,
     LongVector = 2,
     AbsolutePoint = 3,
@@ -23,6 +25,7 @@ pub(crate) enum Instruction {
     StatusA { latch: Option<bool>, stop: bool },
     GraphIncrement { increment: Option<u8> },
     StatusC { write: Option<bool> },
+    Characters { codes: [Code; 2] },
     Vector { lit: bool, dx: Unit, dy: Unit },
     AbsolutePoint { lit: bool, at: Position },
     GraphX { lit: bool, x: Unit },
@@ -48,6 +51,7 @@ pub(crate) enum Half {
 impl Mode {
     pub(crate) fn from_number(number: u8) -> Option<Mode> {
         match number {
+            0 => Some(Mode::Characters),
             1 => Some(Mode::ShortVector),
             2 => Some(Mode::LongVector),
             3 => Some(Mode::AbsolutePoint),
@@ -69,7 +73,7 @@ pub(crate) fn decode(word: u16, mode: Option<Mode>) -> Result<First, Fault> {
         return control(word);
     }
     match mode {
-        Some(mode) => Ok(data(word, mode)),
+        Some(mode) => data(word, mode),
         None => Err(Fault::NoMode),
     }
 }
@@ -120,18 +124,22 @@ fn control(word: u16) -> Result<First, Fault> {
     Ok(First::Whole(instruction))
 }
 
-fn data(word: u16, mode: Mode) -> First {
+fn data(word: u16, mode: Mode) -> Result<First, Fault> {
     let lit = bit(word, 14);
     let (dx, dy) = short_moves(word);
     let instruction = match mode {
+        // Bit 14 belongs to the second code here: every character is lit.
+        Mode::Characters => Instruction::Characters {
+            codes: [character(word, 6, 0)?, character(word, 14, 8)?],
+        },
         Mode::ShortVector => Instruction::Vector { lit, dx, dy },
         Mode::LongVector => {
             let dx = long_move(word);
-            return First::Half(Half::LongVector { lit, dx });
+            return Ok(First::Half(Half::LongVector { lit, dx }));
         }
         Mode::AbsolutePoint => {
             let x = coordinate(word);
-            return First::Half(Half::AbsolutePoint { lit, x });
+            return Ok(First::Half(Half::AbsolutePoint { lit, x }));
         }
         Mode::GraphX => Instruction::GraphX {
             lit,
@@ -143,7 +151,11 @@ fn data(word: u16, mode: Mode) -> First {
         },
         Mode::RelativePoint => Instruction::RelativePoint { lit, dx, dy },
     };
-    First::Whole(instruction)
+    Ok(First::Whole(instruction))
+}
+
+fn character(word: u16, high: u32, low: u32) -> Result<Code, Fault> {
+    Code::from_number(small(word, high, low)).ok_or(Fault::CharacterCode)
 }
 
 fn short_moves(word: u16) -> (Unit, Unit) {
@@ -219,6 +231,25 @@ mod tests {
             let refused = Err(Fault::SecondWord);
             assert_eq!(Half::LongVector { lit, dx }.complete(second), refused);
             assert_eq!(Half::AbsolutePoint { lit, x }.complete(second), refused);
+        }
+    }
+
+    #[test]
+    fn a_character_word_holds_two_codes_and_bit_7_is_not_read() {
+        for first in 0..128 {
+            for second in 0..128 {
+                let codes = (Code::from_number(first), Code::from_number(second));
+                let expected = match codes {
+                    (Some(first), Some(second)) => Ok(First::Whole(Instruction::Characters {
+                        codes: [first, second],
+                    })),
+                    _ => Err(Fault::CharacterCode),
+                };
+                let word = u16::from(second) << 8 | u16::from(first);
+                for word in [word, word | 1 << 7] {
+                    assert_eq!(decode(word, Some(Mode::Characters)), expected, "{:o}", word);
+                }
+            }
         }
     }
 

@@ -83,11 +83,29 @@ impl From<Outcome> for HostRan {
     }
 }
 
+/// A slice that may be empty, and then has any pointer.
+unsafe fn lent<'a, T>(first: *const T, length: usize) -> &'a [T] {
+    if length == 0 {
+        &[]
+    } else {
+        from_raw_parts(first, length)
+    }
+}
+
+unsafe fn lent_mut<'a, T>(first: *mut T, length: usize) -> &'a mut [T] {
+    if length == 0 {
+        &mut []
+    } else {
+        from_raw_parts_mut(first, length)
+    }
+}
+
 /// # Safety
-/// As for every call here: a pointer with a length leads to so many elements.
+/// As for every call here: a pointer with a length leads to so many elements; with length 0 it may be
+/// null.
 #[no_mangle]
 pub unsafe extern "C" fn roadparsnip_check(file: *const u16, words: usize) -> u8 {
-    second::check(from_raw_parts(file, words)).number()
+    second::check(lent(file, words)).number()
 }
 
 #[no_mangle]
@@ -113,10 +131,13 @@ pub unsafe extern "C" fn roadparsnip_step(
     machine: HostMachine,
     image: *mut u8,
     bytes: usize,
+    set: *const u8,
+    set_bytes: usize,
 ) -> HostRan {
-    let file = from_raw_parts(file, words);
-    let image = from_raw_parts_mut(image, bytes);
-    HostRan::from(second::step(file, Machine::from(machine), image))
+    let file = lent(file, words);
+    let image = lent_mut(image, bytes);
+    let set = lent(set, set_bytes);
+    HostRan::from(second::step(file, Machine::from(machine), image, set))
 }
 
 /// # Safety
@@ -129,18 +150,21 @@ pub unsafe extern "C" fn roadparsnip_run(
     image: *mut u8,
     bytes: usize,
     budget: u32,
+    set: *const u8,
+    set_bytes: usize,
 ) -> HostRan {
-    let file = from_raw_parts(file, words);
-    let image = from_raw_parts_mut(image, bytes);
+    let file = lent(file, words);
+    let image = lent_mut(image, bytes);
+    let set = lent(set, set_bytes);
     let machine = Machine::from(machine);
-    HostRan::from(second::run(file, machine, image, u64::from(budget)))
+    HostRan::from(second::run(file, machine, image, u64::from(budget), set))
 }
 
 /// # Safety
 /// See `roadparsnip_check`.
 #[no_mangle]
 pub unsafe extern "C" fn roadparsnip_clear(image: *mut u8, bytes: usize) -> u8 {
-    second::clear(from_raw_parts_mut(image, bytes)).number()
+    second::clear(lent_mut(image, bytes)).number()
 }
 
 /// # Safety
@@ -152,7 +176,7 @@ pub unsafe extern "C" fn roadparsnip_read_pixel(
     x: i32,
     y: i32,
 ) -> HostRead {
-    let image = from_raw_parts(image, bytes);
+    let image = lent(image, bytes);
     let (answer, digit) = second::read_pixel(image, Pixel(i64::from(x)), Pixel(i64::from(y)));
     HostRead {
         digit,

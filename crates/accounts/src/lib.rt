@@ -121,6 +121,9 @@ fn item_account(lit: u8, item: Item) -> Account {
         Item::GraphX { x } => moves(10, lit, x, Units(0)),
         Item::GraphY { y } => moves(11, lit, Units(0), y),
         Item::RelativePoint { x, y } => moves(12, lit, x, y),
+        Item::Characters { first, second } => {
+            moves(13, lit, Units(first as i32), Units(second as i32))
+        }
     }
 }
 

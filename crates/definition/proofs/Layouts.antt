@@ -6,7 +6,7 @@ use lib.IntN.{pos, negsuc}
 use Rattle.definition.specs.Units.{units}
 use Rattle.definition.specs.declared.Instruction.the-variants.{Does, Draws}
 use Rattle.definition.specs.declared.Order.the-variants.{SetMode, Jump, NoOp, StatusA, Increment, StatusC}
-use Rattle.definition.specs.declared.Item.the-variants.{ShortVector, LongVector, AbsolutePoint, GraphX, GraphY, RelativePoint}
+use Rattle.definition.specs.declared.Item.the-variants.{ShortVector, LongVector, AbsolutePoint, GraphX, GraphY, RelativePoint, Characters}
 use Rattle.definition.proofs.Opened.{rules}
 use Rattle.definition.proofs.Worked.{Case, reads, steps, Hold, holding, inMode, to, afterSteps, stored, dot}
 
@@ -16,6 +16,8 @@ layouts =
     ∷ reads 255 0o132377 (Does (SetMode (record { mode = 6; sets = true; value = 0 })))
     ∷ reads 255 0o113000 (Does (SetMode (record { mode = 2; sets = true; value = 2 })))
     ∷ reads 255 0o104377 (Does (SetMode (record { mode = 1; sets = false; value = 0 })))
+    ∷ reads 255 0o100000 (Does (SetMode (record { mode = 0; sets = false; value = 0 })))
+    ∷ reads 255 0o103400 (Does (SetMode (record { mode = 0; sets = true; value = 3 })))
     ∷ reads 255 0o160000 (Does Jump)
     ∷ reads 255 0o163777 (Does Jump)
     ∷ reads 255 0o164000 (Does NoOp)
@@ -43,6 +45,12 @@ layouts =
     ∷ reads 5 0o077777 (Draws true (GraphY (units (pos 1023))))
     ∷ reads 6 0o077600 (Draws true (RelativePoint (units (negsuc 62)) (units (pos 0))))
     ∷ reads 6 0o000177 (Draws false (RelativePoint (units (pos 0)) (units (negsuc 62))))
+    -- two codes, the low one first; bit 7 is not read, and every character is lit, whatever bit 14 is
+    ∷ reads 0 0o000177 (Draws true (Characters 127 0))
+    ∷ reads 0 0o077400 (Draws true (Characters 0 127))
+    ∷ reads 0 0o077600 (Draws true (Characters 0 127))
+    ∷ reads 0 0o000377 (Draws true (Characters 127 0))
+    ∷ reads 0 0o042506 (Draws true (Characters 70 69))
     ∷ []
 
 pub all-layouts : Hold layouts

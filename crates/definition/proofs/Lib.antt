@@ -12,3 +12,4 @@ pub mod VectorLaws
 pub mod Digits
 pub mod StoreLaws
 pub mod StepLaws
+pub mod Characters

@@ -31,7 +31,7 @@ pick-keeps P false p q = q refl
 
 module _ (g : Given) where
   -- ---- a step
-  pub step-done : (m : Machine) → refusal g m ≡ 0 → step g m ≡ completes m (instruction g m) (wordIn (second g m))
+  pub step-done : (m : Machine) → refusal g m ≡ 0 → step g m ≡ completes g m (instruction g m) (wordIn (second g m))
   unfolding step
   step-done m e = rw (eq-eqb _ _ e)
 
@@ -39,7 +39,7 @@ module _ (g : Given) where
   unfolding step
   step-refused m h = rw (ne-eqb _ _ h)
 
-  pub step-keeps : (P : Step → Type 0) (m : Machine) → (refusal g m ≡ 0 → P (completes m (instruction g m) (wordIn (second g m)))) → P (refuses m (refusal g m)) → P (step g m)
+  pub step-keeps : (P : Step → Type 0) (m : Machine) → (refusal g m ≡ 0 → P (completes g m (instruction g m) (wordIn (second g m)))) → P (refuses m (refusal g m)) → P (step g m)
   unfolding step
   step-keeps P m p q = pick-keeps P (eqb (refusal g m) 0) (λ e. p (eqb-true _ _ e)) (λ e. q)
 

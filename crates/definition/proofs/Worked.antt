@@ -60,9 +60,9 @@ stored g zero m = []
 stored g (suc k) m = step g m .pixels ++ stored g k (step g m .machine)
 
 -- the pixels that an instruction of one word lights, in the field or not
-abbrev pub lighted : Machine → Instruction → List Pixel
-lighted m (Does o) = []
-lighted m (Draws lit it) = pick lit (itemPixels m it 0) []
+abbrev pub lighted : Given → Machine → Instruction → List Pixel
+lighted g m (Does o) = []
+lighted g m (Draws lit it) = pick lit (itemPixels g m it 0) []
 
 pub data Case : Type 0 where
   halves : ℤ → ℤ → Case  -- a unit, its pixel
@@ -87,7 +87,7 @@ abbrev pub given-by-rules : Case → Seen
 given-by-rules (halves u p) = halved (pixelsOf 2 (units u))
 given-by-rules (between a b ps) = drawn (vector a b)
 given-by-rules (reads mode w i) = read (decode mode w)
-given-by-rules (lights m w ps) = drawn (lighted m (decode (m .mode) w))
+given-by-rules (lights m w ps) = drawn (lighted (given (plain [])) m (decode (m .mode) w))
 given-by-rules (steps g k m m′ ps) = left (afterSteps g k m) (stored g k m)
 given-by-rules (calls f m answer stores) = answering (stepCall (plain f) m blank .result)
 

@@ -1,6 +1,6 @@
 -- The calls: the doors of each in their order, and what each answers and leaves.
 use Prim.Native.Nat.{ℕ}
-use mathlib.Core.Bool.{not}
+use mathlib.Core.Bool.{not, _||_}
 use mathlib.Core.List.{List, [], _∷_, _++_}
 use lib.ListN.{length}
 use lib.Dec.{eqb, ltb}
@@ -8,6 +8,8 @@ use lib.IntN.{natAbs}
 use Rattle.definition.specs.Choice.{pick, Test, _when_, firstOf, joined}
 use Rattle.definition.specs.Image.{Shape, imageBytes, blank, inField, digitAt, Left, left}
 use Rattle.definition.specs.File.{fileDoors, fetch}
+use Rattle.definition.specs.BuiltIn.{builtIn}
+use Rattle.definition.specs.Characters.{setBytes, chosen}
 use Rattle.definition.specs.Machine.{startedAt, machineDoors}
 use Rattle.definition.specs.Step.{Given}
 use Rattle.definition.specs.Run.{nothing, State, begun, run}
@@ -23,21 +25,28 @@ imageDoors im = 11 when not (eqb (length im) imageBytes) ∷ []
 unfoldable pub budgetDoors : ℕ → List Test
 budgetDoors b = 17 when ltb 1000000 b ∷ []
 
+unfoldable pub setDoors : List ℕ → List Test
+setDoors set = 18 when not (eqb (length set) 0 || eqb (length set) setBytes) ∷ []
+
 unfoldable pub runningDoors : Machine → List Test
 runningDoors m = 28 when not (eqb (m .status) 0) ∷ []
 
 unfoldable pub fieldDoors : Shape → Pixel → List Test
 fieldDoors s p = 31 when not (inField s p) ∷ []
 
--- what a run is lent, beside its image; and a file with nothing else
+-- what a run is lent, beside its image: a file, and a set of characters, which may be empty
 pub record Lent : Type 0 where
   pub file : List ℕ
+  pub set : List ℕ
+
+abbrev pub lending : List ℕ → List ℕ → Lent
+lending f set = record { file = f; set = set }
 
 abbrev pub plain : List ℕ → Lent
-plain f = record { file = f }
+plain f = lending f []
 
 abbrev pub given : Lent → Given
-given l = record { memory = fetch (l .file) }
+given l = record { memory = fetch (l .file); set = chosen (l .set) builtIn }
 
 unfoldable pub checkCall : List ℕ → ℕ
 checkCall f = firstOf (fileDoors f)
@@ -49,11 +58,11 @@ startCall m a =
 
 -- what a run can be turned away with
 abbrev pub doorNumbers : List ℕ
-doorNumbers = 11 ∷ 12 ∷ 13 ∷ 14 ∷ 15 ∷ 16 ∷ 17 ∷ 28 ∷ []
+doorNumbers = 11 ∷ 12 ∷ 13 ∷ 14 ∷ 15 ∷ 16 ∷ 17 ∷ 18 ∷ 28 ∷ []
 
--- asked in this order: the image, the file (12 to 15), the machine, the budget, the status
+-- asked in this order: the image, the file (12 to 15), the machine, the budget, the set, the status
 unfoldable pub runDoors : Lent → Machine → List ℕ → ℕ → List Test
-runDoors l m im b = joined (imageDoors im ∷ fileDoors (l .file) ∷ machineDoors m ∷ budgetDoors b ∷ runningDoors m ∷ [])
+runDoors l m im b = joined (imageDoors im ∷ fileDoors (l .file) ∷ machineDoors m ∷ budgetDoors b ∷ setDoors (l .set) ∷ runningDoors m ∷ [])
 
 unfoldable pub runDoor : Lent → Machine → List ℕ → ℕ → ℕ
 runDoor l m im b = firstOf (runDoors l m im b)

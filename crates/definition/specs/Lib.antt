@@ -4,6 +4,8 @@ pub mod Image
 pub mod File
 pub mod Words
 pub mod Vector
+pub mod BuiltIn
+pub mod Characters
 pub mod Machine
 pub mod Step
 pub mod Run

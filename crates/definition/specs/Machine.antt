@@ -69,7 +69,7 @@ isMode k = eqb k none || setsMode k
 
 -- what an instruction can be refused for; the statuses are running, the two stops and these
 abbrev pub refusalNumbers : List ℕ
-refusalNumbers = 21 ∷ 22 ∷ 23 ∷ 24 ∷ 25 ∷ 26 ∷ 27 ∷ []
+refusalNumbers = 21 ∷ 22 ∷ 23 ∷ 24 ∷ 25 ∷ 26 ∷ 27 ∷ 32 ∷ []
 
 abbrev pub statuses : List ℕ
 statuses = 0 ∷ 1 ∷ 2 ∷ refusalNumbers

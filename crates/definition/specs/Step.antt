@@ -1,7 +1,7 @@
 -- A step: what an instruction is refused for, and what it does where it is not refused.
-use Prim.Native.Nat.{ℕ}
+use Prim.Native.Nat.{ℕ, _*_}
 use mathlib.Core.Bool.{Bool, false, not, _&&_, _||_}
-use mathlib.Core.List.{List, [], _∷_}
+use mathlib.Core.List.{List, [], _∷_, _++_}
 use lib.Dec.{eqb}
 use lib.IntN.{pos}
 use Rattle.definition.specs.Choice.{pick, Test, _when_, firstOf, joined, onlyIf}
@@ -10,6 +10,7 @@ use Rattle.definition.specs.Image.{pixelAt, inside}
 use Rattle.definition.specs.File.{Memory, wordIn, fetchRefusals}
 use Rattle.definition.specs.Words.{long, coordinate, decode, jumps, isPaired, hasSecond, wordsOf, firstRefusals, secondRefusals}
 use Rattle.definition.specs.Vector.{vector}
+use Rattle.definition.specs.Characters.{cellOf, cellPixels}
 use Rattle.definition.specs.Machine.{next, past, withCounter, withPosition, withMode, withWrite, withLatch, withIncrement, withStatus, shapeOf, inRange}
 use Rattle.definition.specs.declared.Units.{Units}
 use Rattle.definition.specs.declared.Pixel.{Pixel}
@@ -18,9 +19,14 @@ use Rattle.definition.specs.declared.Fetched.{Fetched}
 use Rattle.definition.specs.declared.Order.{Order}
 use Rattle.definition.specs.declared.Order.the-variants.{SetMode, Jump, NoOp, StatusA, Increment, StatusC}
 use Rattle.definition.specs.declared.Item.{Item}
-use Rattle.definition.specs.declared.Item.the-variants.{ShortVector, LongVector, AbsolutePoint, GraphX, GraphY, RelativePoint}
+use Rattle.definition.specs.declared.Item.the-variants.{ShortVector, LongVector, AbsolutePoint, GraphX, GraphY, RelativePoint, Characters}
 use Rattle.definition.specs.declared.Instruction.{Instruction}
 use Rattle.definition.specs.declared.Instruction.the-variants.{Does, Draws}
+
+-- what a run is given, beside its machine, its image and its budget: words by their addresses, and the set of characters that serves
+pub record Given : Type 0 where
+  pub memory : Memory
+  pub set : List ℕ
 
 -- ---- where an instruction takes the position
 -- of a coordinate: it stays, is set outright, or is moved
@@ -47,6 +53,10 @@ pub record Way : Type 0 where
 abbrev pub way : Change → Change → Way
 way x y = record { x = x; y = y }
 
+-- each character advances X by so many units
+abbrev pub advance : ℕ
+advance = 16
+
 -- by the increment g, the item and its second word v
 abbrev pub itemWay : ℕ → Item → ℕ → Way
 itemWay g (ShortVector dx dy) v = way (Move dx) (Move dy)
@@ -55,6 +65,7 @@ itemWay g (AbsolutePoint x) v = way (Set x) (Set (coordinate v))
 itemWay g (GraphX x) v = way (Set x) (Move (units (pos g)))
 itemWay g (GraphY y) v = way (Move (units (pos g))) (Set y)
 itemWay g (RelativePoint dx dy) v = way (Move dx) (Move dy)
+itemWay g (Characters first second) v = way (Move (units (pos (2 * advance)))) Stay
 
 abbrev pub wayOf : ℕ → Instruction → ℕ → Way
 wayOf g (Does o) v = way Stay Stay
@@ -67,19 +78,26 @@ pointAt m x y = pixelAt (shapeOf m) x y ∷ []
 abbrev pub vectorBy : Machine → Units → Units → List Pixel
 vectorBy m dx dy = vector (pixelAt (shapeOf m) (m .x) (m .y)) (pixelAt (shapeOf m) (moved (m .x) dx) (moved (m .y) dy))
 
--- in the graph modes the coordinate that will grow is still the one before the step
-abbrev pub itemPixels : Machine → Item → ℕ → List Pixel
-itemPixels m (ShortVector dx dy) v = vectorBy m dx dy
-itemPixels m (LongVector dx) v = vectorBy m dx (long v)
-itemPixels m (AbsolutePoint x) v = pointAt m x (coordinate v)
-itemPixels m (GraphX x) v = pointAt m x (m .y)
-itemPixels m (GraphY y) v = pointAt m (m .x) y
-itemPixels m (RelativePoint dx dy) v = pointAt m (moved (m .x) dx) (moved (m .y) dy)
+-- a character with the lower left corner of its cell at the pixel of (x, y)
+abbrev pub characterAt : List ℕ → Machine → Units → Units → ℕ → List Pixel
+characterAt set m x y c = cellPixels (pixelAt (shapeOf m) x y) (cellOf set c)
+
+-- in the graph modes the coordinate that will grow is still the one before the step; the second of two characters is where the first has led
+abbrev pub itemPixels : Given → Machine → Item → ℕ → List Pixel
+itemPixels g m (ShortVector dx dy) v = vectorBy m dx dy
+itemPixels g m (LongVector dx) v = vectorBy m dx (long v)
+itemPixels g m (AbsolutePoint x) v = pointAt m x (coordinate v)
+itemPixels g m (GraphX x) v = pointAt m x (m .y)
+itemPixels g m (GraphY y) v = pointAt m (m .x) y
+itemPixels g m (RelativePoint dx dy) v = pointAt m (moved (m .x) dx) (moved (m .y) dy)
+itemPixels g m (Characters first second) v =
+    characterAt (g .set) m (m .x) (m .y) first
+    ++ characterAt (g .set) m (moved (m .x) (units (pos advance))) (m .y) second
 
 -- those that are stored: of a lit item, while write is on, in the field
-abbrev pub storedOf : Machine → Instruction → ℕ → List Pixel
-storedOf m (Does o) v = []
-storedOf m (Draws lit it) v = pick (lit && m .write) (inside (shapeOf m) (itemPixels m it v)) []
+abbrev pub storedOf : Given → Machine → Instruction → ℕ → List Pixel
+storedOf g m (Does o) v = []
+storedOf g m (Draws lit it) v = pick (lit && m .write) (inside (shapeOf m) (itemPixels g m it v)) []
 
 -- ---- the machine after an instruction
 -- a stop goes by the latch as it then is
@@ -104,10 +122,6 @@ done m (Draws lit it) v =
     (changed (m .y) (itemWay (m .increment) it v .y))
 
 -- ---- the step
--- what a run is given, beside its machine, its image and its budget
-pub record Given : Type 0 where
-  pub memory : Memory
-
 -- what stands at the counter, and after it
 abbrev pub first : Given → Machine → Fetched
 first g m = g .memory (m .counter)
@@ -142,12 +156,12 @@ pub record Step : Type 0 where
   pub words : ℕ
   pub pixels : List Pixel
 
-abbrev pub completes : Machine → Instruction → ℕ → Step
-completes m i v = record { machine = done m i v; steps = 1; words = wordsOf i; pixels = storedOf m i v }
+abbrev pub completes : Given → Machine → Instruction → ℕ → Step
+completes g m i v = record { machine = done m i v; steps = 1; words = wordsOf i; pixels = storedOf g m i v }
 
 -- a refusal sets the status and nothing else, and is not counted
 abbrev pub refuses : Machine → ℕ → Step
 refuses m why = record { machine = withStatus m why; steps = 0; words = 0; pixels = [] }
 
 unfoldable pub step : Given → Machine → Step
-step g m = pick (eqb (refusal g m) 0) (completes m (instruction g m) (wordIn (second g m))) (refuses m (refusal g m))
+step g m = pick (eqb (refusal g m) 0) (completes g m (instruction g m) (wordIn (second g m))) (refuses m (refusal g m))

@@ -2,7 +2,7 @@
 use Prim.Native.Nat.{ℕ, zero, suc, _-_, _/_, _%_, _^_}
 use mathlib.Core.Bool.{Bool, true, false, not, _&&_, _||_}
 use mathlib.Core.List.{List, [], _∷_}
-use lib.Dec.{eqb}
+use lib.Dec.{eqb, leb}
 use lib.IntN.{pos, negℤ}
 use Rattle.definition.specs.Choice.{pick, within, Test, _when_}
 use Rattle.definition.specs.Units.{units}
@@ -10,7 +10,7 @@ use Rattle.definition.specs.declared.Units.{Units}
 use Rattle.definition.specs.declared.Order.{Order}
 use Rattle.definition.specs.declared.Order.the-variants.{SetMode, Jump, NoOp, StatusA, Increment, StatusC}
 use Rattle.definition.specs.declared.Item.{Item}
-use Rattle.definition.specs.declared.Item.the-variants.{ShortVector, LongVector, AbsolutePoint, GraphX, GraphY, RelativePoint}
+use Rattle.definition.specs.declared.Item.the-variants.{ShortVector, LongVector, AbsolutePoint, GraphX, GraphY, RelativePoint, Characters}
 use Rattle.definition.specs.declared.Instruction.{Instruction}
 use Rattle.definition.specs.declared.Instruction.the-variants.{Does, Draws}
 
@@ -27,10 +27,10 @@ abbrev pub code : ℕ → ℕ
 code w = bits 14 11 w
 
 unfoldable pub setsMode : ℕ → Bool
-setsMode c = within 1 6 c
+setsMode c = leb c 6
 
 unfoldable pub notBuilt : ℕ → Bool
-notBuilt c = eqb c 0 || within 7 11 c
+notBuilt c = within 7 11 c
 
 -- a code that is not built is refused before its order is asked for
 unfoldable pub order : ℕ → Order
@@ -60,21 +60,33 @@ long w = move (bit 13 w) (bits 9 0 w)
 abbrev pub coordinate : ℕ → Units
 coordinate w = units (pos (bits 9 0 w))
 
+-- the codes of the two characters of a word
+abbrev pub firstCode : ℕ → ℕ
+firstCode w = bits 6 0 w
+
+abbrev pub secondCode : ℕ → ℕ
+secondCode w = bits 14 8 w
+
 abbrev pub none : ℕ
 none = 255
 
 -- no mode is refused before its item is asked for
 unfoldable pub item : ℕ → ℕ → Item
 item mode w =
-    pick (eqb mode 1) (ShortVector (shortX w) (shortY w))
+    pick (eqb mode 0) (Characters (firstCode w) (secondCode w))
+    (pick (eqb mode 1) (ShortVector (shortX w) (shortY w))
     (pick (eqb mode 2) (LongVector (long w))
     (pick (eqb mode 3) (AbsolutePoint (coordinate w))
     (pick (eqb mode 4) (GraphX (coordinate w))
     (pick (eqb mode 5) (GraphY (coordinate w))
-    (RelativePoint (shortX w) (shortY w))))))
+    (RelativePoint (shortX w) (shortY w)))))))
+
+-- bit 14 lights an item; in mode 0 it belongs to the second code, and every character is lit
+abbrev pub isLit : ℕ → ℕ → Bool
+isLit mode w = eqb mode 0 || bit 14 w
 
 unfoldable pub decode : ℕ → ℕ → Instruction
-decode mode w = pick (bit 15 w) (Does (order w)) (Draws (bit 14 w) (item mode w))
+decode mode w = pick (bit 15 w) (Does (order w)) (Draws (isLit mode w) (item mode w))
 
 -- ---- second words: of a jump, and of modes 2 and 3
 abbrev pub jumps : Order → Bool
@@ -92,6 +104,7 @@ paired (AbsolutePoint x) = true
 paired (GraphX x) = false
 paired (GraphY y) = false
 paired (RelativePoint dx dy) = false
+paired (Characters first second) = false
 
 abbrev pub isPaired : Instruction → Bool
 isPaired (Does o) = false
@@ -105,10 +118,15 @@ abbrev pub wordsOf : Instruction → ℕ
 wordsOf i = pick (hasSecond i) 2 1
 
 -- ---- what a first word is refused for, and a second word of modes 2 and 3
+-- the codes that a set has a cell for
+unfoldable pub isCode : ℕ → Bool
+isCode c = within 32 126 c
+
 unfoldable pub firstRefusals : ℕ → ℕ → List Test
 firstRefusals mode w =
     24 when (bit 15 w && notBuilt (code w))
     ∷ 25 when (not (bit 15 w) && eqb mode none)
+    ∷ 32 when (not (bit 15 w) && eqb mode 0 && not (isCode (firstCode w) && isCode (secondCode w)))
     ∷ []
 
 unfoldable pub secondRefusals : ℕ → List Test

@@ -75,7 +75,7 @@ pub enum Order {
     StatusC(WriteBits),
 }
 
-// A word with bit 15 clear, by the mode: moves signed, coordinates as they stand. What a second word holds is not in it.
+// A word with bit 15 clear, by the mode: moves signed, coordinates and the codes of characters as they stand. What a second word holds is not in it.
 pub enum Item {
     ShortVector { x: Units, y: Units },
     LongVector { x: Units },
@@ -83,6 +83,7 @@ pub enum Item {
     GraphX { x: Units },
     GraphY { y: Units },
     RelativePoint { x: Units, y: Units },
+    Characters { first: u8, second: u8 },
 }
 
 pub enum Instruction {

@@ -9,16 +9,17 @@ use Rattle.definition.specs.Units.{units}
 use Rattle.definition.specs.Image.{square}
 use Rattle.definition.specs.Machine.{fresh, withMode}
 use Rattle.definition.specs.Run.{State, begun}
-use Rattle.definition.specs.Calls.{plain}
+use Rattle.definition.specs.Calls.{lending}
 use Rattle.definition.specs.declared.Pixel.{Pixel}
 use Rattle.definition.specs.Step.Change.{Stay, Set, Move}
 use Rattle.definition.specs.declared.Order.the-variants.{Increment}
-use Rattle.definition.specs.declared.Item.the-variants.{GraphY, ShortVector}
+use Rattle.definition.specs.declared.Item.the-variants.{GraphY, ShortVector, Characters}
 use Rattle.definition.specs.declared.Instruction.the-variants.{Does, Draws}
 use Rattle.definition.proofs.Opened.{rules}
 use Rattle.definition.proofs.Worked.{holding, inMode, dot}
 use Rattle.demands.specs.Conditions.{InRange}
 use Rattle.demands.specs.Exact.{exact}
+use Rattle.demands.specs.Cells.{characters}
 use Rattle.demands.specs.Graphs.{AlongX, AlongY, weeks, ofLit}
 use Rattle.demands.specs.Ledger.{Entry, completed, changes, settled}
 use Rattle.demands.specs.Strokes.{Stroke, strokes, ledgerWords, standing}
@@ -68,16 +69,17 @@ pub set-and-moved : (settled (units (pos 3)) (Move (units (pos 2)) ∷ Set (unit
     ≡ units (pos 8) ∷ units (pos 4) ∷ []
 set-and-moved = refl
 
--- a graph word moves X by the increment that is then in force
+-- a graph word moves X by the increment that is then in force, and two characters move it by 32
 abbrev entries : List Entry
 entries =
     record { what = Draws true (GraphY (units (pos 9))); second = 0 }
     ∷ record { what = Does (Increment (record { sets = true; increment = 7 })); second = 0 }
     ∷ record { what = Draws true (GraphY (units (pos 9))); second = 0 }
     ∷ record { what = Draws false (ShortVector (units (negsuc 1)) (units (pos 0))); second = 0 }
+    ∷ record { what = Draws true (Characters 65 66); second = 0 }
     ∷ []
 
-pub increments : changes (λ w. w .x) 4 entries ≡ Move (units (pos 4)) ∷ Stay ∷ Move (units (pos 7)) ∷ Move (units (negsuc 1)) ∷ []
+pub increments : changes (λ w. w .x) 4 entries ≡ Move (units (pos 4)) ∷ Stay ∷ Move (units (pos 7)) ∷ Move (units (negsuc 1)) ∷ Move (units (pos 32)) ∷ []
 increments = refl
 
 -- both ends of a coordinate's range
@@ -91,6 +93,12 @@ highest = record { low = omega whole; high = omega whole }
 pub half-way : exact (pos 0) (pos 7) 2 1 ≡ pos 7
 half-way = refl
 
--- another file is lent in the place of the one that was
-pub another-file : withFile (plain (1 ∷ [])) (2 ∷ 3 ∷ []) .file ≡ 2 ∷ 3 ∷ []
+-- the cells of codes 32 and 33 by the pixels (5, 5) and (13, 5): the top row first, in it the highest bit leftmost
+pub two-cells : characters (0x81 ∷ 0 ∷ 0 ∷ 0 ∷ 0 ∷ 0 ∷ 0 ∷ 0x01 ∷ 0x40 ∷ 0 ∷ 0 ∷ 0 ∷ 0 ∷ 0 ∷ 0 ∷ 0 ∷ []) (inMode 0 (pos 10) (pos 10)) 0o020440
+    ≡ dot 5 12 ∷ dot 12 12 ∷ dot 12 5 ∷ dot 14 12 ∷ []
+unfolding rules
+two-cells = refl
+
+-- another file is lent in the place of the one that was, with the same set
+pub another-file : withFile (lending (1 ∷ []) (7 ∷ [])) (2 ∷ 3 ∷ []) ≡ lending (2 ∷ 3 ∷ []) (7 ∷ [])
 another-file = refl

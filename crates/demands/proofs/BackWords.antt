@@ -24,6 +24,7 @@ use Rattle.definition.specs.declared.Instruction.the-variants.{Draws}
 use Rattle.definition.proofs.StepLaws.{on, run-turn}
 use Rattle.demands.specs.Conditions.{InRange, Fits, word, more, Continues}
 use Rattle.demands.specs.Strokes.{ShortWord, LongWords, VectorWords, negated, Turned}
+use Rattle.demands.proofs.Runs.{one-turn}
 use Rattle.demands.proofs.Kept.{step-fits}
 use Rattle.demands.proofs.StepAnswers.{refused-0}
 use Rattle.demands.proofs.MovesOut.{short, longer, one-word, two-words, not-paired}
@@ -82,8 +83,8 @@ module _ (g : Given) (m : Machine) (dx dy : Units) where
 
     pub words-complete : VectorWords g m dx dy → refusal g m ≡ 0
     words-complete = ⊎-elim
-        (λ r. ends-in _ (short-is r) refl (one-word g m (r .data-word) (let e = r .mode in omega arith) (not-paired g m (λ q. let e = r .mode in omega arith) (λ q. let e = r .mode in omega arith)) .1 (r .fetched)))
-        (λ r. ends-in _ (long-is r) (ap (λ (d : Units). way (Move dx) (Move d)) (r .upward)) (two-words g m (r .data-word) (let e = r .mode in omega arith) (r .data-word, inl (r .mode)) .1 (r .fetched, (r .fetched-too, r .data-too))))
+        (λ r. ends-in _ (short-is r) refl (one-word g m (r .data-word) (let e = r .mode in omega arith) (let e = r .mode in omega arith) (not-paired g m (λ q. let e = r .mode in omega arith) (λ q. let e = r .mode in omega arith)) .1 (r .fetched)))
+        (λ r. ends-in _ (long-is r) (ap (λ (d : Units). way (Move dx) (Move d)) (r .upward)) (two-words g m (r .data-word) (let e = r .mode in omega arith) (let e = r .mode in omega arith) (r .data-word, inl (r .mode)) .1 (r .fetched, (r .fetched-too, r .data-too))))
 
 -- ---- there and back
 module _ (g : Given) (m : Machine) (dx dy : Units) (fits : Fits m) (x-in : InRange (moved (m .x) dx)) (y-in : InRange (moved (m .y) dy))
@@ -114,19 +115,15 @@ module _ (g : Given) (m : Machine) (dx dy : Units) (fits : Fits m) (x-in : InRan
   back-stores = back.back-stores g m dx dy free (words-are g m dx dy there) free-back (words-are g m′ (negated dx) (negated dy) turned)
 
   module _ (running : m .status ≡ 0) (im : List ℕ) where
-    one-turn : (n : Machine) (im : List ℕ) → n .status ≡ 0 → run g 1 (begun n im) ≡ on g (begun n im)
-    unfolding run
-    one-turn n im r = run-turn g 0 (begun n im) r
-
     still-running : m′ .status ≡ 0
     still-running = ap (λ (n : Machine). n .status) gone ∙ running
 
     -- drawn on the same first image the two leave the same image
     pub back-image : run g 1 (begun m′ im) .image ≡ run g 1 (begun m im) .image
     back-image =
-        ap (λ (s : State). s .image) (one-turn m′ im still-running)
+        ap (λ (s : State). s .image) (one-turn g (begun m′ im) still-running)
         ∙ back.back-image g m dx dy free (words-are g m dx dy there) free-back (words-are g m′ (negated dx) (negated dy) turned) fits im
-        ∙ sym (ap (λ (s : State). s .image) (one-turn m im running))
+        ∙ sym (ap (λ (s : State). s .image) (one-turn g (begun m im) running))
 
     -- and drawn over the first the way back changes nothing
     pub back-over : length im ≡ imageBytes → run g 2 (begun m im) .image ≡ run g 1 (begun m im) .image
@@ -134,4 +131,4 @@ module _ (g : Given) (m : Machine) (dx dy : Units) (fits : Fits m) (x-in : InRan
     back-over l =
         ap (λ (s : State). s .image) (run-turn g 1 (begun m im) running ∙ run-turn g 0 (on g (begun m im)) still-running)
         ∙ back.back-over g m dx dy free (words-are g m dx dy there) free-back (words-are g m′ (negated dx) (negated dy) turned) fits im l
-        ∙ sym (ap (λ (s : State). s .image) (one-turn m im running))
+        ∙ sym (ap (λ (s : State). s .image) (one-turn g (begun m im) running))

@@ -37,11 +37,11 @@ VectorBy g m dx dy = (instruction g m ≡ Draws true (ShortVector dx dy)) ⊎ ((
 -- ---- one vector
 module _ (g : Given) (m : Machine) (dx dy : Units) (free : refusal g m ≡ 0) (is : VectorBy g m dx dy) where
   -- what holds of the short vector completed and of the long one holds of the step
-  by-kind : (Q : Step → Type 0) → Q (completes m (Draws true (ShortVector dx dy)) (more g m)) → (long (more g m) ≡ dy → Q (completes m (Draws true (LongVector dx)) (more g m))) → Q (step g m)
+  by-kind : (Q : Step → Type 0) → Q (completes g m (Draws true (ShortVector dx dy)) (more g m)) → (long (more g m) ≡ dy → Q (completes g m (Draws true (LongVector dx)) (more g m))) → Q (step g m)
   by-kind Q p q = ⊎-elim (λ e. known e p) (λ w. known (w .0) (q (w .1))) is
     where
-      known : {i : Instruction} → instruction g m ≡ i → Q (completes m i (more g m)) → Q (step g m)
-      known e h = subst Q (sym (step-done g m free ∙ ap (λ (i : Instruction). completes m i (more g m)) e)) h
+      known : {i : Instruction} → instruction g m ≡ i → Q (completes g m i (more g m)) → Q (step g m)
+      known e h = subst Q (sym (step-done g m free ∙ ap (λ (i : Instruction). completes g m i (more g m)) e)) h
 
   after-x : step g m .machine .x ≡ moved (m .x) dx
   unfolding done

@@ -1,6 +1,6 @@
 -- The answers of a run at the call, each exactly when.
 use Prim.Native.Nat.{ℕ, zero, suc, _+_, _-_, _≤_, _<_}
-use mathlib.Core.Bool.{true, false, not}
+use mathlib.Core.Bool.{true, false, not, _||_}
 use mathlib.Core.List.{List, [], _∷_, _++_}
 use mathlib.Core.Path.{_≡_, refl, sym, ap, _∙_}
 use mathlib.Core.Logic.{⊎-elim, _↔_}
@@ -13,18 +13,19 @@ use borrow.Author.Tests.{eq-eqb, ne-eqb, ltb-true}
 use Rattle.definition.specs.Choice.{among, Test, firstOf}
 use Rattle.definition.specs.Image.{imageBytes, Left}
 use Rattle.definition.specs.File.{headDoors, segmentDoors, fileDoors}
+use Rattle.definition.specs.Characters.{setBytes}
 use Rattle.definition.specs.Machine.{refusalNumbers, statuses, machineDoors}
 use Rattle.definition.specs.Step.{Given, refusal, step}
 use Rattle.definition.specs.Run.{State, begun, run}
-use Rattle.definition.specs.Calls.{imageDoors, budgetDoors, runningDoors, Lent, given, checkCall, doorNumbers, runDoors, runDoor, answered, turnedAway, runCall}
+use Rattle.definition.specs.Calls.{imageDoors, budgetDoors, setDoors, runningDoors, Lent, given, checkCall, doorNumbers, runDoors, runDoor, answered, turnedAway, runCall}
 use Rattle.definition.specs.declared.Machine.{Machine}
 use Rattle.definition.specs.declared.Ran.{Ran}
 use Rattle.definition.proofs.Exactly.{apart, names, exactly, none-holds, in-later, in-first}
 use Rattle.definition.proofs.Tables.{one-of, in-both}
 use Rattle.definition.proofs.Answers.{door-is, door-no-status}
-use Rattle.definition.proofs.Plain.{_so_, _and_, itself, is-less, not-less, is-equal, not-equal, not-true, not-false, either-true, failing, never}
+use Rattle.definition.proofs.Plain.{_so_, _and_, _or_, itself, is-less, not-less, is-equal, not-equal, not-true, not-false, either-true, failing, never}
 use Rattle.demands.specs.Outcomes.{refusedAfter}
-use Rattle.demands.specs.Conditions.{Among, Accepted, Fits, Open, During}
+use Rattle.demands.specs.Conditions.{Among, Accepted, Fits, Lendable, Open, During}
 use Rattle.definition.proofs.StepLaws.{on, step-done, step-refused, run-turn, run-stopped}
 use Rattle.demands.proofs.Runs.{refused-only, run-add}
 use Rattle.demands.proofs.Kept.{is-among, fits, run-fits}
@@ -94,7 +95,7 @@ module _ (l : Lent) (m : Machine) (im : List ℕ) (b : ℕ) where
   door = runDoor l m im b
 
   abbrev later : List Test
-  later = machineDoors m ++ (budgetDoors b ++ (runningDoors m ++ []))
+  later = machineDoors m ++ (budgetDoors b ++ (setDoors (l .set) ++ (runningDoors m ++ [])))
 
   image-passes : (firstOf (imageDoors im) ≡ 0) ↔ (length im ≡ imageBytes)
   unfolding imageDoors
@@ -110,28 +111,35 @@ module _ (l : Lent) (m : Machine) (im : List ℕ) (b : ℕ) where
   past-the-file n k q = in-later n (imageDoors im) (fileDoors f ++ later) refl k so image-passes and (in-later n (fileDoors f) later refl q so check-0 f and itself)
 
   door-11 : (door ≡ 11) ↔ (length im ≡ imageBytes → ⊥)
-  unfolding runDoor runDoors imageDoors fileDoors headDoors segmentDoors machineDoors budgetDoors runningDoors
+  unfolding runDoor runDoors imageDoors fileDoors headDoors segmentDoors machineDoors budgetDoors setDoors runningDoors
   door-11 = in-first 11 (imageDoors im) (fileDoors f ++ later) refl (omega arith) refl so exactly 11 (imageDoors im) (omega arith) so not-true so not-equal
 
   door-16 : (door ≡ 16) ↔ ((length im ≡ imageBytes) × (Accepted f × (Fits m → ⊥)))
-  unfolding imageDoors fileDoors headDoors segmentDoors machineDoors budgetDoors runningDoors
+  unfolding imageDoors fileDoors headDoors segmentDoors machineDoors budgetDoors setDoors runningDoors
   door-16 = past-the-file 16 refl refl so itself and itself and (exactly 16 later (omega arith) so not-true so failing so never (fits m))
 
   door-17 : (door ≡ 17) ↔ ((length im ≡ imageBytes) × (Accepted f × (Fits m × (1000000 < b))))
-  unfolding imageDoors fileDoors headDoors segmentDoors machineDoors budgetDoors runningDoors
+  unfolding imageDoors fileDoors headDoors segmentDoors machineDoors budgetDoors setDoors runningDoors
   door-17 = past-the-file 17 refl refl so itself and itself and (exactly 17 later (omega arith) so (not-false so fits m) and is-less)
 
-  door-28 : (door ≡ 28) ↔ ((length im ≡ imageBytes) × (Accepted f × (Fits m × ((b ≤ 1000000) × (m .status ≡ 0 → ⊥)))))
-  unfolding imageDoors fileDoors headDoors segmentDoors machineDoors budgetDoors runningDoors
-  door-28 = past-the-file 28 refl refl so itself and itself and (exactly 28 later (omega arith) so (not-false so fits m) and not-less and (not-true so not-equal))
+  lendable : (not (eqb (length (l .set)) 0 || eqb (length (l .set)) setBytes) ≡ false) ↔ Lendable (l .set)
+  lendable = not-false so either-true so is-equal or is-equal
+
+  door-18 : (door ≡ 18) ↔ ((length im ≡ imageBytes) × (Accepted f × (Fits m × ((b ≤ 1000000) × (Lendable (l .set) → ⊥)))))
+  unfolding imageDoors fileDoors headDoors segmentDoors machineDoors budgetDoors setDoors runningDoors
+  door-18 = past-the-file 18 refl refl so itself and itself and (exactly 18 later (omega arith) so (not-false so fits m) and not-less and (not-true so failing so never (either-true so is-equal or is-equal)))
+
+  door-28 : (door ≡ 28) ↔ ((length im ≡ imageBytes) × (Accepted f × (Fits m × ((b ≤ 1000000) × (Lendable (l .set) × (m .status ≡ 0 → ⊥))))))
+  unfolding imageDoors fileDoors headDoors segmentDoors machineDoors budgetDoors setDoors runningDoors
+  door-28 = past-the-file 28 refl refl so itself and itself and (exactly 28 later (omega arith) so (not-false so fits m) and not-less and lendable and (not-true so not-equal))
 
   pub door-0 : (door ≡ 0) ↔ Open l m im b
-  unfolding imageDoors fileDoors headDoors segmentDoors machineDoors budgetDoors runningDoors
+  unfolding imageDoors fileDoors headDoors segmentDoors machineDoors budgetDoors setDoors runningDoors
   door-0 =
-      past-the-file 0 refl refl so itself and itself and (none-holds later refl so (not-false so fits m) and not-less and (not-false so is-equal) and itself)
+      past-the-file 0 refl refl so itself and itself and (none-holds later refl so (not-false so fits m) and not-less and lendable and (not-false so is-equal) and itself)
       so (
-        λ w. record { image = w .0; file = w .1 .0; machine = w .1 .1 .0; budget = w .1 .1 .1 .0; running = w .1 .1 .1 .1 .0 },
-        λ o. (o .image, (o .file, (o .machine, (o .budget, (o .running, tt))))),
+        λ w. record { image = w .0; file = w .1 .0; machine = w .1 .1 .0; budget = w .1 .1 .1 .0; set = w .1 .1 .1 .1 .0; running = w .1 .1 .1 .1 .1 .0 },
+        λ o. (o .image, (o .file, (o .machine, (o .budget, (o .set, (o .running, tt)))))),
       )
 
   -- ---- the call: a door's number, or the run's last status
@@ -199,7 +207,7 @@ module _ (l : Lent) (m : Machine) (im : List ℕ) (b : ℕ) where
   run-11 = by-door 11 refl so door-11
 
   pub run-checked : (n : ℕ) → among n (12 ∷ 13 ∷ 14 ∷ 15 ∷ []) ≡ true → (answer ≡ n) ↔ ((length im ≡ imageBytes) × (checkCall f ≡ n))
-  unfolding imageDoors machineDoors budgetDoors runningDoors
+  unfolding imageDoors machineDoors budgetDoors setDoors runningDoors
   run-checked n k = by-door n (in-both files doorNumbers n refl k) so at-the-file n (ltb-true 0 n (one-of (ltb 0) files n refl k)) (not-true .0 (one-of (λ n. not (names n (imageDoors im))) files n refl k)) (not-true .0 (one-of (λ n. not (names n later)) files n refl k))
     where
       files : List ℕ
@@ -211,7 +219,10 @@ module _ (l : Lent) (m : Machine) (im : List ℕ) (b : ℕ) where
   pub run-17 : (answer ≡ 17) ↔ ((length im ≡ imageBytes) × (Accepted f × (Fits m × (1000000 < b))))
   run-17 = by-door 17 refl so door-17
 
-  pub run-28 : (answer ≡ 28) ↔ ((length im ≡ imageBytes) × (Accepted f × (Fits m × ((b ≤ 1000000) × (m .status ≡ 0 → ⊥)))))
+  pub run-18 : (answer ≡ 18) ↔ ((length im ≡ imageBytes) × (Accepted f × (Fits m × ((b ≤ 1000000) × (Lendable (l .set) → ⊥)))))
+  run-18 = by-door 18 refl so door-18
+
+  pub run-28 : (answer ≡ 28) ↔ ((length im ≡ imageBytes) × (Accepted f × (Fits m × ((b ≤ 1000000) × (Lendable (l .set) × (m .status ≡ 0 → ⊥))))))
   run-28 = by-door 28 refl so door-28
 
   pub run-0 : (answer ≡ 0) ↔ (Open l m im b × ((last ≡ 0) × (run (given l) b (begun m im) .counts .steps ≡ b)))

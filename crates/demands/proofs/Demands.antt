@@ -11,7 +11,7 @@ use lib.Signed.{_≤ℤ_, _<ℤ_}
 use Rattle.definition.specs.Units.{units, pixelsOf}
 use Rattle.definition.specs.Image.{Shape, square, imageBytes, blank, pixelAt, inside, stores, digitAt, Left, left}
 use Rattle.definition.specs.File.{tag, segments, offset, size, header, segmentOf, placeOf, fetch, numberIn}
-use Rattle.definition.specs.Words.{shortX, shortY, long, coordinate}
+use Rattle.definition.specs.Words.{shortX, shortY, long, coordinate, firstCode, secondCode}
 use Rattle.definition.specs.Vector.{longer, vector}
 use Rattle.definition.specs.Machine.{refusalNumbers, statuses, fresh, startedAt, withStatus, shapeOf, penOf}
 use Rattle.definition.specs.Step.{Given, first, second, refusal, step}
@@ -26,7 +26,7 @@ use Rattle.definition.specs.declared.Fetched.the-variants.{Word}
 use Rattle.definition.specs.declared.Ran.{Ran}
 use Rattle.definition.specs.declared.Started.{Started}
 use Rattle.definition.specs.declared.Read.{Read}
-use Rattle.demands.specs.Conditions.{Among, Head, Keeps, Accepted, SameHeader, SameWords, Fits, Open, During, InField, On, Off, NotBuilt, NoMode, Pair, word, more, Begins, FetchRefused, MovesOut, Beyond, Stops, LatchIs}
+use Rattle.demands.specs.Conditions.{Among, Head, Keeps, Accepted, SameHeader, SameWords, Fits, Lendable, Open, During, InField, On, Off, HasCell, NotBuilt, NoMode, BadCode, Pair, word, more, Begins, FetchRefused, MovesOut, Beyond, Stops, LatchIs}
 use Rattle.demands.specs.Ledger.{completed, changes, settled}
 use Rattle.demands.specs.Graphs.{AlongX, AlongY, weeks, ofLit, shown, Ready, plotted}
 use Rattle.demands.specs.Exact.{exact}
@@ -182,7 +182,11 @@ module _ (l : Lent) (m : Machine) (im : List ℕ) (b : ℕ) where
   pub run-17 : (answer ≡ 17) ↔ ((length im ≡ imageBytes) × (Accepted (l .file) × (Fits m × (1000000 < b))))
   run-17 = calls.run-17 l m im b
 
-  pub run-28 : (answer ≡ 28) ↔ ((length im ≡ imageBytes) × (Accepted (l .file) × (Fits m × ((b ≤ 1000000) × (m .status ≡ 0 → ⊥)))))
+  -- a lent set of characters of neither 0 nor 760 bytes
+  pub run-18 : (answer ≡ 18) ↔ ((length im ≡ imageBytes) × (Accepted (l .file) × (Fits m × ((b ≤ 1000000) × (Lendable (l .set) → ⊥)))))
+  run-18 = calls.run-18 l m im b
+
+  pub run-28 : (answer ≡ 28) ↔ ((length im ≡ imageBytes) × (Accepted (l .file) × (Fits m × ((b ≤ 1000000) × (Lendable (l .set) × (m .status ≡ 0 → ⊥))))))
   run-28 = calls.run-28 l m im b
 
   pub run-21 : (answer ≡ 21) ↔ Ends (FetchRefused 21 g)
@@ -206,14 +210,23 @@ module _ (l : Lent) (m : Machine) (im : List ℕ) (b : ℕ) where
   pub run-27 : (answer ≡ 27) ↔ Ends (MovesOut g)
   run-27 = calls.run-refusal l m im b 27 refl _ (steps.refused-27 g)
 
+  -- a code of a character outside 32 to 126, in either half of the word
+  pub run-32 : (answer ≡ 32) ↔ Ends (λ m. (numberIn (first g m) ≡ 0) × BadCode (m .mode) (word g m))
+  run-32 = calls.run-refusal l m im b 32 refl _ (λ m f. steps.refused-32 g m)
+
 -- 27 by the kind of the word. An order never gives it
 module _ (g : Given) (m : Machine) where
   pub order-never-27 : Fits m → On 15 (word g m) → MovesOut g m → ⊥
   order-never-27 = moves.order-stays g m
 
   -- a vector or a relative point gives it exactly when X or Y and its move sum to less than -4,096 or more than 4,095; an absolute point never does; a graph
-  -- word exactly when the coordinate that it steps along and the increment sum to more than 4,095
+  -- word exactly when the coordinate that it steps along and the increment sum to more than 4,095; a word of two characters, both codes in
+  -- 32 to 126, exactly when X and 32 do
   module _ (off : Off 15 (word g m)) where
+    pub mode-0-27 : Fits m → m .mode ≡ 0
+        → MovesOut g m ↔ ((numberIn (first g m) ≡ 0) × ((HasCell (firstCode (word g m)) × HasCell (secondCode (word g m))) × (pos 4095 <ℤ (m .x .0 +ℤ pos 32))))
+    mode-0-27 f e = moves.characters-out g m off e f
+
     pub mode-1-27 : m .mode ≡ 1 → MovesOut g m ↔ ((numberIn (first g m) ≡ 0) × (Beyond (m .x) (shortX (word g m)) ⊎ Beyond (m .y) (shortY (word g m))))
     mode-1-27 = moves.short-out g m off
 
@@ -268,7 +281,7 @@ plot-ran = others.plot-run
 
 -- ==== Demand 2
 
--- ---- the plot comes before the step
+-- ---- the plot comes before the step (of characters: character-stores and character-word, in Drawing.antt)
 -- words of graph Y, lit or blank, run one after the other from any position with room for their steps: the whole state after them
 pub graph-y-plots-then-steps : (g : Given) (s : State) (ws : List ℕ) → Ready AlongX g s ws → run g (length ws) s ≡ plotted AlongX s ws
 graph-y-plots-then-steps = graphs.plot-then-step AlongX
@@ -314,7 +327,8 @@ runs-in-a-row = runs.run-twice
 -- ==== Demand 3
 
 -- ---- drift does not build up
--- whatever the budget: a coordinate is where it was last set, or where it began, and the sum of what the instructions completed after that moved it by
+-- whatever the budget: a coordinate is where it was last set, or where it began, and the sum of what the instructions completed after that moved it by, the
+-- advance of characters among them
 pub no-drift-x : (g : Given) (b : ℕ) (s : State) → run g b s .machine .x ≡ settled (s .machine .x) (changes (λ w. w .x) (s .machine .increment) (completed g b s))
 no-drift-x = drift.no-drift-x
 

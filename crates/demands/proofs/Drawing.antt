@@ -1,25 +1,30 @@
 -- What a run draws: every stroke of it, where each comes from, and what stands at a pixel after it. Each theorem has a proof of a line here, as in Demands.antt;
--- the words of the statements are defined in specs/Strokes.antt, Graphs.antt and Conditions.antt.
-use Prim.Native.Nat.{ℕ, suc, _+_, _≤_, _<_}
+-- the words of the statements are defined in specs/Strokes.antt, Cells.antt, Graphs.antt and Conditions.antt.
+use Prim.Native.Nat.{ℕ, suc, _+_, _-_, _*_, _≤_, _<_, _%_}
 use mathlib.Core.Bool.{true, false}
 use mathlib.Core.List.{List, [], _∷_, _++_, reverse}
 use mathlib.Core.Path.{_≡_}
 use mathlib.Core.Logic.{_⊎_, _↔_}
-use lib.ListN.{length, getD}
-use lib.IntN.{ℤ}
-use Rattle.definition.specs.Units.{moved}
+use lib.ListN.{length, getD, replicate}
+use lib.IntN.{ℤ, pos, _+ℤ_}
+use lib.Signed.{_≤ℤ_}
+use Rattle.definition.specs.Units.{units, pixel, moved}
 use Rattle.definition.specs.Image.{Shape, square, imageBytes, pixelAt, inside}
-use Rattle.definition.specs.Words.{bit, bits, shortX, shortY, long}
-use Rattle.definition.specs.Machine.{withCounter, shapeOf, penOf}
-use Rattle.definition.specs.Step.{Given, refusal, step}
+use Rattle.definition.specs.File.{numberIn}
+use Rattle.definition.specs.Words.{bit, bits, shortX, shortY, long, firstCode, secondCode}
+use Rattle.definition.specs.BuiltIn.{builtIn}
+use Rattle.definition.specs.Characters.{setBytes, cellOf, cellPixels}
+use Rattle.definition.specs.Machine.{withCounter, withPosition, shapeOf, penOf}
+use Rattle.definition.specs.Step.{Given, first, refusal, step}
 use Rattle.definition.specs.Run.{State, begun, after, run}
-use Rattle.definition.specs.Calls.{Lent, given, answered, runCall, readCall}
+use Rattle.definition.specs.Calls.{Lent, lending, given, answered, runCall, stepCall, readCall}
 use Rattle.definition.specs.declared.Units.{Units}
 use Rattle.definition.specs.declared.Pixel.{Pixel}
 use Rattle.definition.specs.declared.Machine.{Machine}
-use Rattle.demands.specs.Conditions.{Among, InRange, Fits, Open, During, InField, On, Off, word}
+use Rattle.demands.specs.Conditions.{Among, InRange, Fits, Open, During, InField, On, Off, LitWord, BlankWord, HasCell, word}
 use Rattle.demands.specs.Ledger.{completed}
 use Rattle.demands.specs.Graphs.{Axis, AllLit, stepped, weeks, ofLit, shown, weekAt, Ready, plotted}
+use Rattle.demands.specs.Cells.{LitIn, firstCorner, secondCorner, ByCharacters, DrawnCharacters}
 use Rattle.demands.specs.Strokes.{Stroke, strokesOf, strokes, strokePixels, drawn, ledgerWords, Lights, lightsBetween, Plots, vectorBetween, longerBetween, OnVector, LitVector, VectorWords, negated, Turned, seen, standing, Unstruck}
 use Rattle.demands.proofs.Strokes as all
 use Rattle.demands.proofs.Origins as origins
@@ -29,6 +34,8 @@ use Rattle.demands.proofs.Standing as stands
 use Rattle.demands.proofs.Graphs as graphs
 use Rattle.demands.proofs.WeekStrokes as in-order
 use Rattle.demands.proofs.Weeks as seen-weeks
+use Rattle.demands.proofs.Characters as letters
+use Rattle.demands.proofs.BuiltIn as set
 use Rattle.demands.proofs.BackWords as words
 
 -- ==== The strokes of a run
@@ -64,12 +71,12 @@ pub strokes-first : (g : Given) (b : ℕ) (s : State) → s .machine .status ≡
 strokes-first = origins.strokes-first
 
 -- a completed step of a lit data word with write on stores those pixels in the field that its mode lights between its two positions, in their order; any other
--- step stores none
-pub lit-stores : (g : Given) (m : Machine) → refusal g m ≡ 0 → m .write ≡ true → Off 15 (word g m) → On 14 (word g m)
-    → step g m .pixels ≡ inside (shapeOf m) (lightsBetween (m .mode) m (step g m .machine))
+-- step stores none. In mode 0 every data word is lit, in the other modes one with bit 14 set
+pub lit-stores : (g : Given) (m : Machine) → refusal g m ≡ 0 → m .write ≡ true → Off 15 (word g m) → LitWord (m .mode) (word g m)
+    → step g m .pixels ≡ inside (shapeOf m) (lightsBetween g (m .mode) (word g m) m (step g m .machine))
 lit-stores = places.lit-stores
 
-pub else-stores-none : (g : Given) (m : Machine) → (m .write ≡ false) ⊎ (On 15 (word g m) ⊎ Off 14 (word g m)) → step g m .pixels ≡ []
+pub else-stores-none : (g : Given) (m : Machine) → (m .write ≡ false) ⊎ (On 15 (word g m) ⊎ BlankWord (m .mode) (word g m)) → step g m .pixels ≡ []
 else-stores-none = places.else-stores-none
 
 -- ==== Where a stroke comes from
@@ -78,8 +85,8 @@ else-stores-none = places.else-stores-none
 pub stroke-origin : (g : Given) (b : ℕ) (s : State) (t : Stroke) → Among t (strokes g b s) ↔ During g b s (λ m. (t .machine ≡ m) × Lights g m (t .pixel))
 stroke-origin = origins.stroke-origin
 
--- the same in words and positions alone: the word there has bit 15 clear and bit 14 set, write is on, and the pixel is in the field and one of those that
--- its mode lights between the position before the step and the one after it
+-- the same in words and positions alone: the word there has bit 15 clear, and bit 14 set or its mode is 0; write is on; and the pixel is in the field and one
+-- of those that its mode lights between the position before the step and the one after it
 pub stroke-in-words : (g : Given) (b : ℕ) (s : State) (t : Stroke) → Among t (strokes g b s) ↔ During g b s (λ m. (t .machine ≡ m) × Plots g m (t .pixel))
 stroke-in-words = places.stroke-in-words
 
@@ -164,6 +171,89 @@ module _ (axis : Axis) (l : Lent) (m : Machine) (im ws : List ℕ) (o : Open l m
 -- where every word is lit, all their places are
 pub all-lit : (axis : Axis) (h : Shape) (x : ℤ) (g j : ℕ) (ws : List ℕ) → AllLit ws → ofLit ws (weeks axis h x g j ws) ≡ weeks axis h x g j ws
 all-lit = graphs.all-lit
+
+-- ==== Characters: the words of mode 0
+
+-- a cell lights a pixel exactly when it is in row r from the top and column k from the left, and bit 7 - k of byte r is set
+pub cell-lights : (corner : Pixel) (cell : List ℕ) (p : Pixel) → Among p (cellPixels corner cell) ↔ LitIn corner cell p
+cell-lights = letters.cell-lights
+
+-- byte r of the cell of code c is byte 8 (c - 32) + r of the set; of a set of 760 bytes every cell has eight
+pub cell-byte : (set : List ℕ) (c r : ℕ) → r < 8 → getD (cellOf set c) r 0 ≡ getD set (8 * (c - 32) + r) 0
+cell-byte = letters.cell-byte
+
+pub cell-length : (set : List ℕ) (c : ℕ) → length set ≡ setBytes → HasCell c → length (cellOf set c) ≡ 8
+cell-length = letters.cell-length
+
+-- a word of two characters is completed exactly when it is fetched, both its codes are in 32 to 126, and X and 32 sum to at most 4,095
+pub character-completes : (g : Given) (m : Machine) → Fits m → Off 15 (word g m) → m .mode ≡ 0
+    → (refusal g m ≡ 0) ↔ ((numberIn (first g m) ≡ 0) × ((HasCell (firstCode (word g m)) × HasCell (secondCode (word g m))) × ((m .x .0 +ℤ pos 32) ≤ℤ pos 4095)))
+character-completes = letters.character-completes
+
+-- completed: the counter goes on by a word, X by 32 units, and nothing else of the machine is changed
+pub character-word : (g : Given) (m : Machine) → refusal g m ≡ 0 → Off 15 (word g m) → m .mode ≡ 0
+    → step g m .machine ≡ withPosition (withCounter m ((m .counter + 2) % 65536)) (units (m .x .0 +ℤ pos 32)) (m .y)
+character-word = letters.character-word
+
+-- with write on it stores a pixel exactly when it is in the field, and lit by the cell of the first code at the position's pixel or by that of the second at
+-- the pixel of 16 units further right (with write off it stores none: else-stores-none)
+pub character-stores : (g : Given) (m : Machine) → refusal g m ≡ 0 → Off 15 (word g m) → m .mode ≡ 0 → m .write ≡ true
+    → (p : Pixel) → Among p (step g m .pixels) ↔ (InField (shapeOf m) p × ByCharacters g m p)
+character-stores = letters.character-stores
+
+-- the second cell stands directly to the right of the first
+pub second-corner : (m : Machine) → secondCorner m ≡ pixel (firstCorner m .x .0 +ℤ pos 8) (firstCorner m .y .0)
+second-corner = letters.second-corner
+
+-- so of a run: a stroke of mode 0 is of it exactly when such a word, completed from a running machine, which is the stroke's own, lights its pixel
+pub character-origin : (g : Given) (b : ℕ) (s : State) (t : Stroke)
+    → ((t .machine .mode ≡ 0) × Among t (strokes g b s)) ↔ During g b s (λ m. (t .machine ≡ m) × (DrawnCharacters g m × (InField (shapeOf m) (t .pixel) × ByCharacters g m (t .pixel))))
+character-origin = letters.character-origin
+
+-- after such a word a pixel of the field that it lights reads the pixel value, and every pixel that it does not light reads as before
+module _ (g : Given) (m : Machine) (im : List ℕ) (fits : Fits m) (running : m .status ≡ 0) (d : DrawnCharacters g m) where
+  pub character-reads : (p : Pixel) → length im ≡ imageBytes → InField square p → ByCharacters g m p → readCall square (run g 1 (begun m im) .image) p ≡ record { answer = 0; digit = m .value }
+  character-reads = letters.character-reads g m im fits running d
+
+  pub no-character-reads : (p : Pixel) → (ByCharacters g m p → ⊥) → readCall square (run g 1 (begun m im) .image) p ≡ readCall square im p
+  no-character-reads = letters.no-character-reads g m im fits running d
+
+-- the same of a step that is called, with a set that may be lent (which set serves: below)
+module _ (l : Lent) (m : Machine) (im : List ℕ) (o : Open l m im 1) (d : DrawnCharacters (given l) m) where
+  pub call-character-reads : (p : Pixel) → InField square p → ByCharacters (given l) m p → readCall square (stepCall l m im .image) p ≡ record { answer = 0; digit = m .value }
+  call-character-reads = letters.call-character-reads l m im o d
+
+  pub call-no-character-reads : (p : Pixel) → (ByCharacters (given l) m p → ⊥) → readCall square (stepCall l m im .image) p ≡ readCall square im p
+  call-no-character-reads = letters.call-no-character-reads l m im o d
+
+-- ---- the built-in set: 760 bytes; no two of its cells are alike, so the ten digits' all differ; that of code 32 is blank and no other is
+pub built-in-length : length builtIn ≡ setBytes
+built-in-length = set.built-in-length
+
+pub built-in-bytes : (i : ℕ) → i < setBytes → getD builtIn i 0 < 256
+built-in-bytes = set.built-in-bytes
+
+pub all-cells-differ : (a b : ℕ) → 32 ≤ a → a < b → b ≤ 126 → cellOf builtIn a ≡ cellOf builtIn b → ⊥
+all-cells-differ = set.all-cells-differ
+
+pub digits-differ : (a b : ℕ) → 48 ≤ a → a < b → b ≤ 57 → cellOf builtIn a ≡ cellOf builtIn b → ⊥
+digits-differ = set.digits-differ
+
+pub space-blank : cellOf builtIn 32 ≡ replicate 8 0
+space-blank = set.space-blank
+
+pub no-cell-blank : (c : ℕ) → 33 ≤ c → c ≤ 126 → cellOf builtIn c ≡ replicate 8 0 → ⊥
+no-cell-blank = set.no-cell-blank
+
+-- ---- the set that serves: where an empty one is lent the built-in one does, and else the lent one
+pub empty-set-is-built-in : (f : List ℕ) (m : Machine) (im : List ℕ) (b : ℕ) → runCall (lending f []) m im b ≡ runCall (lending f builtIn) m im b
+empty-set-is-built-in = set.empty-set-is-built-in
+
+pub empty-set-steps : (f : List ℕ) (m : Machine) (im : List ℕ) → stepCall (lending f []) m im ≡ stepCall (lending f builtIn) m im
+empty-set-steps f m im = set.empty-set-is-built-in f m im 1
+
+pub lent-set-serves : (f set : List ℕ) → length set ≡ setBytes → given (lending f set) .set ≡ set
+lent-set-serves = set.lent-set-serves
 
 -- ==== There and back: the words of a lit vector whose end is in range, and from its end the words of the vector with both moves negated
 

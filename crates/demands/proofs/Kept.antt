@@ -25,9 +25,9 @@ pub in-range : {u : Units} → (inRange u ≡ true) ↔ InRange u
 unfolding inRange
 in-range = both-true so is-mostZ and is-mostZ so (λ w. record { low = w .0; high = w .1 }, λ r. (r .low, r .high))
 
-is-mode : {k : ℕ} → (isMode k ≡ true) ↔ ((k ≡ none) ⊎ ((1 ≤ k) × (k ≤ 6)))
+is-mode : {k : ℕ} → (isMode k ≡ true) ↔ ((k ≡ none) ⊎ (k ≤ 6))
 unfolding isMode setsMode
-is-mode = either-true so is-equal or (both-true so is-most and is-most)
+is-mode = either-true so is-equal or is-most
 
 pub is-among : (n : ℕ) (ks : List ℕ) → (among n ks ≡ true) ↔ Among n ks
 is-among n [] = (λ e. apart (sym e), λ w. absurd w)

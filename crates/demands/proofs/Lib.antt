@@ -22,6 +22,8 @@ pub mod OnePen
 pub mod WeekStrokes
 pub mod Weeks
 pub mod MovesOut
+pub mod Characters
+pub mod BuiltIn
 pub mod Backwards
 pub mod BackWords
 pub mod Instances

@@ -10,16 +10,16 @@ use borrow.Author.Tests.{eq-eqb}
 use Rattle.whole.specs.Parts.{whole, add}
 use Rattle.definition.specs.Units.{units, moved}
 use Rattle.definition.specs.File.{numberIn}
-use Rattle.definition.specs.Words.{bit, shortX, shortY, long, coordinate, order, item, decode}
+use Rattle.definition.specs.Words.{bit, shortX, shortY, long, coordinate, firstCode, secondCode, order, item, decode}
 use Rattle.definition.specs.Step.{wayOf, changed, Given, first, second}
 use Rattle.definition.specs.declared.Units.{Units}
 use Rattle.definition.specs.declared.Machine.{Machine}
-use Rattle.definition.specs.declared.Item.the-variants.{ShortVector, LongVector, AbsolutePoint, GraphX, GraphY, RelativePoint}
+use Rattle.definition.specs.declared.Item.the-variants.{ShortVector, LongVector, AbsolutePoint, GraphX, GraphY, RelativePoint, Characters}
 use Rattle.definition.specs.declared.Instruction.{Instruction}
 use Rattle.definition.specs.declared.Instruction.the-variants.{Does, Draws}
 use Rattle.definition.proofs.Plain.{_so_, _and_, _or_, is-lessZ}
-use Rattle.demands.specs.Conditions.{InRange, Fits, On, Off, Pair, word, more, Continues, newX, newY, MovesOut, Beyond}
-use Rattle.demands.proofs.WordAnswers.{data-allowed, second-allowed}
+use Rattle.demands.specs.Conditions.{InRange, Fits, On, Off, HasCell, Pair, word, more, Continues, newX, newY, MovesOut, Beyond}
+use Rattle.demands.proofs.WordAnswers.{data-allowed, codes-allowed, second-allowed}
 use Rattle.demands.proofs.Graphs.{clear-15, coordinate-in}
 
 -- ---- one coordinate
@@ -56,6 +56,10 @@ set-in w = (⊎-elim (λ h. absurd (h (coordinate-in w))) (λ a. a), inr)
 set-in-too : {A : Type 0} (w : ℕ) → (A ⊎ (InRange (coordinate w) → ⊥)) ↔ A
 set-in-too w = (⊎-elim (λ a. a) (λ h. absurd (h (coordinate-in w))), inl)
 
+-- one that stays in its range never leaves it
+stays-too : {A : Type 0} {u : Units} → InRange u → (A ⊎ (InRange u → ⊥)) ↔ A
+stays-too r = (⊎-elim (λ a. a) (λ h. absurd (h r)), inl)
+
 -- ---- the words, by the mode
 module _ (mode w : ℕ) where
   ordered : On 15 w → decode mode w ≡ Does (order w)
@@ -83,6 +87,10 @@ module _ (mode w : ℕ) where
     unfolding decode item
     graph-y e = rw (clear-15 w off, e)
 
+    pub characters : mode ≡ 0 → decode mode w ≡ Draws true (Characters (firstCode w) (secondCode w))
+    unfolding decode item
+    characters e = rw (clear-15 w off, e)
+
     relative : mode ≡ 6 → decode mode w ≡ Draws (bit 14 w) (RelativePoint (shortX w) (shortY w))
     unfolding decode item
     relative e = rw (clear-15 w off, e)
@@ -105,12 +113,12 @@ module _ (g : Given) (m : Machine) where
   pub order-stays : Fits m → On 15 w → MovesOut g m → ⊥
   order-stays f on h = ⊎-elim (λ k. k (f .x)) (λ k. k (f .y)) (out-is (Does (order w)) (ordered (m .mode) w on) .0 (h .1))
 
-  module _ (off : Off 15 w) (some : m .mode ≤ 6) where
+  module _ (off : Off 15 w) (some : 1 ≤ m .mode) (few : m .mode ≤ 6) where
     pub one-word : (Pair (m .mode) w → ⊥) → Continues g m ↔ (numberIn (first g m) ≡ 0)
     one-word no-pair = (
       λ c. c .begins .fetched,
       λ z. record {
-        begins = record { fetched = z; allowed = data-allowed (m .mode) w off some };
+        begins = record { fetched = z; allowed = data-allowed (m .mode) w off some few };
         fetched = λ q. absurd (⊎-elim (λ h. let on = h .0 in omega arith) no-pair q);
         allowed = λ q. absurd (no-pair q);
       },
@@ -120,7 +128,7 @@ module _ (g : Given) (m : Machine) where
     two-words pair = (
       λ c. (c .begins .fetched, (c .fetched (inr pair), second-allowed v .0 (c .allowed pair))),
       λ q. record {
-        begins = record { fetched = q .0; allowed = data-allowed (m .mode) w off some };
+        begins = record { fetched = q .0; allowed = data-allowed (m .mode) w off some few };
         fetched = λ p. q .1 .0;
         allowed = λ p. second-allowed v .1 (q .1 .1);
       },
@@ -129,15 +137,35 @@ module _ (g : Given) (m : Machine) where
   pub not-paired : (m .mode ≡ 2 → ⊥) → (m .mode ≡ 3 → ⊥) → Pair (m .mode) w → ⊥
   not-paired a b p = ⊎-elim a b (p .1)
 
+  -- a word of mode 0 gets as far as its move where both its codes have a cell
+  module _ (off : Off 15 w) (e : m .mode ≡ 0) where
+    pub characters-continue : Continues g m ↔ ((numberIn (first g m) ≡ 0) × (HasCell (firstCode w) × HasCell (secondCode w)))
+    characters-continue = (
+      λ c. (c .begins .fetched, codes-allowed (m .mode) w off e .0 (c .begins .allowed)),
+      λ q. record {
+        begins = record { fetched = q .0; allowed = codes-allowed (m .mode) w off e .1 (q .1) };
+        fetched = λ p. absurd (⊎-elim (λ h. let on = h .0 in omega arith) no-pair p);
+        allowed = λ p. absurd (no-pair p);
+      },
+    )
+      where
+        no-pair : Pair (m .mode) w → ⊥
+        no-pair = not-paired (λ q. omega arith) (λ q. omega arith)
+
+    pub characters-out : Fits m → MovesOut g m ↔ ((numberIn (first g m) ≡ 0) × ((HasCell (firstCode w) × HasCell (secondCode w)) × (pos 4095 <ℤ (m .x .0 +ℤ pos 32))))
+    characters-out f =
+        characters-continue and (out-is _ (characters (m .mode) w off e) so stays-too (f .y) so upward (m .x) 32 (f .x))
+        so (λ q. (q .0 .0, (q .0 .1, q .1)), λ q. ((q .0, q .1 .0), q .1 .1))
+
   module _ (off : Off 15 w) where
     pub short-out : m .mode ≡ 1 → MovesOut g m ↔ ((numberIn (first g m) ≡ 0) × (Beyond (m .x) (shortX w) ⊎ Beyond (m .y) (shortY w)))
-    short-out e = one-word off (omega arith) (not-paired (λ q. omega arith) (λ q. omega arith)) and (out-is _ (short (m .mode) w off e) so beyond (m .x) (shortX w) or beyond (m .y) (shortY w))
+    short-out e = one-word off (omega arith) (omega arith) (not-paired (λ q. omega arith) (λ q. omega arith)) and (out-is _ (short (m .mode) w off e) so beyond (m .x) (shortX w) or beyond (m .y) (shortY w))
 
     pub relative-out : m .mode ≡ 6 → MovesOut g m ↔ ((numberIn (first g m) ≡ 0) × (Beyond (m .x) (shortX w) ⊎ Beyond (m .y) (shortY w)))
-    relative-out e = one-word off (omega arith) (not-paired (λ q. omega arith) (λ q. omega arith)) and (out-is _ (relative (m .mode) w off e) so beyond (m .x) (shortX w) or beyond (m .y) (shortY w))
+    relative-out e = one-word off (omega arith) (omega arith) (not-paired (λ q. omega arith) (λ q. omega arith)) and (out-is _ (relative (m .mode) w off e) so beyond (m .x) (shortX w) or beyond (m .y) (shortY w))
 
     pub long-out : m .mode ≡ 2 → MovesOut g m ↔ (((numberIn (first g m) ≡ 0) × ((numberIn (second g m) ≡ 0) × Off 15 v)) × (Beyond (m .x) (long w) ⊎ Beyond (m .y) (long v)))
-    long-out e = two-words off (omega arith) (off, inl e) and (out-is _ (longer (m .mode) w off e) so beyond (m .x) (long w) or beyond (m .y) (long v))
+    long-out e = two-words off (omega arith) (omega arith) (off, inl e) and (out-is _ (longer (m .mode) w off e) so beyond (m .x) (long w) or beyond (m .y) (long v))
 
     -- an absolute point never leaves
     pub absolute-stays : m .mode ≡ 3 → MovesOut g m → ⊥
@@ -145,10 +173,10 @@ module _ (g : Given) (m : Machine) where
 
     pub graph-x-out : Fits m → m .mode ≡ 4 → MovesOut g m ↔ ((numberIn (first g m) ≡ 0) × (pos 4095 <ℤ (m .y .0 +ℤ pos (m .increment))))
     graph-x-out f e =
-        one-word off (omega arith) (not-paired (λ q. omega arith) (λ q. omega arith))
+        one-word off (omega arith) (omega arith) (not-paired (λ q. omega arith) (λ q. omega arith))
         and (out-is _ (graph-x (m .mode) w off e) so set-in w so upward (m .y) (m .increment) (f .y))
 
     pub graph-y-out : Fits m → m .mode ≡ 5 → MovesOut g m ↔ ((numberIn (first g m) ≡ 0) × (pos 4095 <ℤ (m .x .0 +ℤ pos (m .increment))))
     graph-y-out f e =
-        one-word off (omega arith) (not-paired (λ q. omega arith) (λ q. omega arith))
+        one-word off (omega arith) (omega arith) (not-paired (λ q. omega arith) (λ q. omega arith))
         and (out-is _ (graph-y (m .mode) w off e) so set-in-too w so upward (m .x) (m .increment) (f .x))

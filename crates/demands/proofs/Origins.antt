@@ -30,26 +30,26 @@ use Rattle.demands.proofs.Strokes.{done-next}
 -- ---- one instruction
 module _ (g : Given) (m : Machine) (p : Pixel) (free : refusal g m ≡ 0) where
   -- a lit item with write on stores those of its pixels that are in the field, and no other instruction stores any
-  lights : Among p (storedOf m (instruction g m) (more g m)) ↔ Lights g m p
+  lights : Among p (storedOf g m (instruction g m) (more g m)) ↔ Lights g m p
   lights = by-kind (instruction g m) refl
     where
       by-item : (it : Item) (l w : Bool) → instruction g m ≡ Draws l it → m .write ≡ w
-          → Among p (pick (l && w) (inside (shapeOf m) (itemPixels m it (more g m))) []) ↔ Lights g m p
-      by-item it true true e on = in-inside (shapeOf m) p (itemPixels m it (more g m)) so (
+          → Among p (pick (l && w) (inside (shapeOf m) (itemPixels g m it (more g m))) []) ↔ Lights g m p
+      by-item it true true e on = in-inside (shapeOf m) p (itemPixels g m it (more g m)) so (
         λ q. record { free = free; writing = on; item = it; lit = e; field = q .0; pixel = q .1 },
         λ r. (r .field, let same : r .item ≡ it = cc (e, r .lit) in rw same at (r .pixel)),
       )
       by-item it true false e off = (λ n. absurd n, λ r. absurd (apart (sym (r .writing) ∙ off)))
       by-item it false w e h = (λ n. absurd n, λ r. absurd (apart (cc (e, r .lit))))
 
-      by-kind : (i : Instruction) → instruction g m ≡ i → Among p (storedOf m i (more g m)) ↔ Lights g m p
+      by-kind : (i : Instruction) → instruction g m ≡ i → Among p (storedOf g m i (more g m)) ↔ Lights g m p
       by-kind (Does o) e = (λ n. absurd n, λ r. absurd (let z : _≡_ {A = ℕ} 0 1 = cc (e, r .lit) in omega arith))
       by-kind (Draws l it) e = by-item it l (m .write) e refl
 
 module _ (g : Given) where
   -- ---- a run's strokes, turn by turn
   abbrev nextStrokes : Machine → List Stroke
-  nextStrokes m = strokesOf m (storedOf m (instruction g m) (more g m))
+  nextStrokes m = strokesOf m (storedOf g m (instruction g m) (more g m))
 
   strokes-turn : (b : ℕ) (s : State) → s .machine .status ≡ 0 → refusal g (s .machine) ≡ 0
       → strokes g (suc b) s ≡ nextStrokes (s .machine) ++ strokes g b (on g s)
@@ -106,7 +106,7 @@ module _ (g : Given) where
       go (yes r) (yes z) ih =
           rw (strokes-turn b s r z)
           (in-append t (nextStrokes (s .machine)) (strokes g b (on g s))
-          so (in-strokes (s .machine) t (storedOf (s .machine) (instruction g (s .machine)) (more g (s .machine))) so itself and lights g (s .machine) (t .pixel) z) or ih
+          so (in-strokes (s .machine) t (storedOf g (s .machine) (instruction g (s .machine)) (more g (s .machine))) so itself and lights g (s .machine) (t .pixel) z) or ih
           so back (first-or-later P b s r))
 
   -- the first step's strokes are what it stores, and the rest those of the run from there
@@ -115,7 +115,7 @@ module _ (g : Given) where
     where
       go : Dec (refusal g (s .machine) ≡ 0) → strokes g (suc b) s ≡ strokesOf (s .machine) (step g (s .machine) .pixels) ++ strokes g b (on g s)
       go (yes z) =
-          let e : step g (s .machine) .pixels ≡ storedOf (s .machine) (instruction g (s .machine)) (more g (s .machine)) = ap (λ (t : Step). t .pixels) (step-done g (s .machine) z) in
+          let e : step g (s .machine) .pixels ≡ storedOf g (s .machine) (instruction g (s .machine)) (more g (s .machine)) = ap (λ (t : Step). t .pixels) (step-done g (s .machine) z) in
           strokes-turn b s r z ∙ sym (ap (λ (ps : List Pixel). strokesOf (s .machine) ps ++ strokes g b (on g s)) e)
       go (no h) =
           let st : on g s .machine .status ≡ refusal g (s .machine) = rw (step-refused g (s .machine) h) in

@@ -13,7 +13,7 @@ use Rattle.definition.specs.Choice.{firstOf}
 use Rattle.definition.specs.Image.{Shape, Left, imageBytes, blank, inField, digitAt, left}
 use Rattle.definition.specs.Machine.{fresh, startedAt, inRange, isMode, isStatus, ranged, machineDoors}
 use Rattle.definition.specs.File.{headDoors, segmentDoors, fileDoors}
-use Rattle.definition.specs.Calls.{imageDoors, budgetDoors, runningDoors, fieldDoors, checkCall, startCall, clearCall, readCall, plain, runDoors, runCall}
+use Rattle.definition.specs.Calls.{imageDoors, budgetDoors, setDoors, runningDoors, fieldDoors, checkCall, startCall, clearCall, readCall, plain, runDoors, runCall}
 use Rattle.definition.specs.Plot.{wordsIn, inputDoors, plotBudget, ranLine, refusedLine, plotLine}
 use Rattle.definition.specs.declared.Pixel.{Pixel}
 use Rattle.definition.specs.declared.Machine.{Machine}
@@ -104,7 +104,7 @@ module _ (bytes : List ℕ) where
   number = firstOf (inputDoors bytes ++ runDoors (plain (wordsIn bytes)) fresh blank plotBudget)
 
   input-19 : (number ≡ 19) ↔ ((length bytes % 2 ≡ 0 → ⊥) ⊎ (65536 < length bytes))
-  unfolding inputDoors runDoors imageDoors fileDoors headDoors segmentDoors machineDoors budgetDoors runningDoors
+  unfolding inputDoors runDoors imageDoors fileDoors headDoors segmentDoors machineDoors budgetDoors setDoors runningDoors
   input-19 = exactly 19 (inputDoors bytes ++ runDoors (plain (wordsIn bytes)) fresh blank plotBudget) (omega arith) so either-true so (not-true so not-equal) or is-less
 
   -- the first number of the line
@@ -126,7 +126,7 @@ module _ (bytes : List ℕ) (even : length bytes % 2 ≡ 0) (few : length bytes 
   f = wordsIn bytes
 
   by-check : number bytes ≡ checkCall f
-  unfolding checkCall inputDoors runDoors imageDoors fileDoors headDoors segmentDoors machineDoors budgetDoors runningDoors ranged inRange isMode isStatus firstOf
+  unfolding checkCall inputDoors runDoors imageDoors fileDoors headDoors segmentDoors machineDoors budgetDoors setDoors runningDoors ranged inRange isMode isStatus firstOf
   by-check = rw (eq-eqb _ _ even, le-ltb _ _ few)
 
   pub plot-door : (checkCall f ≡ 0 → ⊥) → plotLine bytes ≡ refusedLine (checkCall f)

@@ -13,7 +13,7 @@ use Rattle.definition.specs.Step.{Given, refusal, step}
 use Rattle.definition.specs.Run.{nothing, summed, State, begun, after, run}
 use Rattle.definition.specs.declared.Machine.{Machine}
 use Rattle.definition.specs.declared.Counts.{Counts}
-use Rattle.definition.proofs.StepLaws.{pick-keeps, step-refused, on, run-stopped}
+use Rattle.definition.proofs.StepLaws.{pick-keeps, step-refused, on, run-turn, run-stopped}
 use Rattle.demands.specs.With.{withMachine, withCounts}
 use Rattle.demands.specs.Ledger.{Entry, entry, completed}
 use Rattle.demands.specs.Outcomes.{plus}
@@ -33,6 +33,11 @@ module _ (g : Given) where
   refused-only s h =
       ap (after s) (step-refused g (s .machine) h)
       ∙ ap (withCounts (withMachine s (withStatus (s .machine) (refusal g (s .machine))))) (summed-nothing (s .counts))
+
+  -- one turn of a running machine
+  pub one-turn : (s : State) → s .machine .status ≡ 0 → run g 1 s ≡ on g s
+  unfolding run
+  one-turn s r = run-turn g 0 s r
 
   pub run-keeps : (P : State → Type 0) → ((s : State) → P s → P (on g s)) → (b : ℕ) (s : State) → P s → P (run g b s)
   unfolding run

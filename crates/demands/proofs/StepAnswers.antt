@@ -6,7 +6,7 @@ use mathlib.Core.Path.{_≡_, refl, sym, ap, _∙_}
 use mathlib.Core.Logic.{_⊎_, inl, inr, ⊎-elim, _↔_}
 use native.Mathlib.Omega.{arith}
 use native.Mathlib.Decide.{ℕ-discrete}
-use lib.Dec.{eqb, leb}
+use lib.Dec.{eqb}
 use borrow.Author.Tests.{eq-eqb, eqb-true, leb-true}
 use Rattle.definition.specs.Choice.{pick, among, Test, firstOf, onlyIf}
 use Rattle.definition.specs.File.{numberIn, fetchRefusals}
@@ -24,11 +24,11 @@ use Rattle.definition.specs.declared.Order.{Order}
 use Rattle.definition.specs.declared.Order.the-variants.{SetMode, Jump, NoOp, StatusA, Increment, StatusC}
 use Rattle.definition.proofs.Answers.{refusal-is}
 use Rattle.definition.proofs.Exactly.{apart, names, exactly, none-holds, in-either, in-later, in-first, asked-if}
-use Rattle.definition.proofs.Plain.{_so_, _and_, _or_, itself, back, is-equal, not-equal, not-true, not-false, both-true, either-true, either-false, failing, never, implies, _nor_, last}
-use Rattle.demands.specs.Conditions.{InRange, Fits, On, NotBuilt, NoMode, FirstRefused, Pair, TwoWords, SecondRefused, word, more, Begins, Continues, FetchRefused, taken, newX, newY, Stops, stopNumber, LatchIs}
+use Rattle.definition.proofs.Plain.{_so_, _and_, _or_, itself, back, is-equal, not-equal, not-true, not-false, either-true, either-false, failing, never, implies, _nor_, last}
+use Rattle.demands.specs.Conditions.{InRange, Fits, On, NotBuilt, NoMode, BadCode, FirstRefused, Pair, TwoWords, SecondRefused, word, more, Begins, Continues, FetchRefused, taken, newX, newY, Stops, stopNumber, LatchIs}
 use Rattle.definition.proofs.StepLaws.{pick-keeps, step-done, step-refused}
 use Rattle.demands.proofs.Kept.{in-range}
-use Rattle.demands.proofs.WordAnswers.{is-off, not-built, no-mode, status-a-allowed, is-pair, has-second, is-status-a}
+use Rattle.demands.proofs.WordAnswers.{is-off, not-built, no-mode, bad-code, status-a-allowed, is-pair, has-second, is-status-a}
 
 wrong : {A : Type 0} → _≡_ {A = Bool} true false → A
 wrong e = absurd (apart e)
@@ -99,7 +99,7 @@ module _ (g : Given) (m : Machine) where
   -- what it says of a group that none of its tests holds
   word-passes : (firstOf word1 ≡ 0) ↔ (FirstRefused (m .mode) w → ⊥)
   unfolding firstRefusals
-  word-passes = none-holds word1 refl so not-built w nor last (no-mode (m .mode) w)
+  word-passes = none-holds word1 refl so not-built w nor no-mode (m .mode) w nor last (bad-code (m .mode) w)
 
   more-passes : (firstOf fetch2 ≡ 0) ↔ (TwoWords (m .mode) w → numberIn (second g m) ≡ 0)
   more-passes = passes-if (hasSecond i) (fetchRefusals (second g m)) so implies (has-second (m .mode) w) (fetch-is (second g m))
@@ -159,6 +159,13 @@ module _ (g : Given) (m : Machine) where
       by-a-word 25 (omega arith) refl refl so itself and (exactly 25 word1 (omega arith) so (failing so never (not-built w)) and no-mode (m .mode) w)
       so itself and (λ q. q .1, λ q. (λ b. let on = b .0 in let off = q .0 in omega arith, q))
 
+  pub refused-32 : (refusal g m ≡ 32) ↔ ((numberIn (first g m) ≡ 0) × BadCode (m .mode) w)
+  unfolding fetchRefusals firstRefusals secondRefusals wayRefusals
+  refused-32 =
+      by-a-word 32 (omega arith) refl refl
+      so itself and (exactly 32 word1 (omega arith) so (failing so never (not-built w)) and (failing so never (no-mode (m .mode) w)) and bad-code (m .mode) w)
+      so itself and (λ q. q .1 .1, λ q. (λ b. let on = b .0 in let off = q .0 in omega arith, (λ b. let e = b .1 in let z = q .1 .0 in omega arith, q)))
+
   pub refused-26 : (refusal g m ≡ 26) ↔ (Begins g m × ((numberIn (second g m) ≡ 0) × (Pair (m .mode) w × On 15 v)))
   unfolding fetchRefusals firstRefusals secondRefusals wayRefusals
   refused-26 =
@@ -201,7 +208,7 @@ order-stops : (m : Machine) (w n : ℕ) → m .status ≡ 0 → (n ≡ 0 → ⊥
     → (stopped m (order w) ≡ n) ↔ ((code w ≡ 14) × (pick (bit 10 w) (pick (pick (bit 9 w) (bit 8 w) (m .latch)) 2 1) (m .status) ≡ n))
 unfolding order setsMode
 order-stops m w n z p =
-    pick-keeps P (setsMode (code w)) (λ e. other (λ q. let l = leb-true (code w) 6 (both-true {s = leb 1 (code w)} .0 e .1) in omega arith))
+    pick-keeps P (setsMode (code w)) (λ e. other (λ q. let l = leb-true (code w) 6 e in omega arith))
     λ a. pick-keeps P (eqb (code w) 12) (λ e. let c = eqb-true (code w) 12 e in other (λ q. omega arith))
     λ b. pick-keeps P (eqb (code w) 13) (λ e. let c = eqb-true (code w) 13 e in other (λ q. omega arith))
     λ c. pick-keeps P (eqb (code w) 14) (λ e. (λ h. (is-equal .0 e, h), λ q. q .1))

@@ -49,7 +49,7 @@ module _ (g : Given) where
     m = s .machine
 
     abbrev lit : List Pixel
-    lit = storedOf m (instruction g m) (wordIn (second g m))
+    lit = storedOf g m (instruction g m) (wordIn (second g m))
 
     pub done-next : on g s .machine ≡ done m (instruction g m) (wordIn (second g m))
     done-next = rw (step-done g m z)
@@ -60,24 +60,24 @@ module _ (g : Given) where
   pub run-image : (b : ℕ) (s : State) → run g b s .image ≡ drawn (s .image) (strokes g b s)
   unfolding strokes
   run-image b s =
-      by-turns g (λ s es r. r .image ≡ drawn (s .image) (strokesBy (s .machine) es))
+      by-turns g (λ s es r. r .image ≡ drawn (s .image) (strokesBy g (s .machine) es))
       (λ s. refl)
       (λ s h. ap (λ (r : State). r .image) (refused-only g s h))
       (λ s es r z ih.
       ih
-      ∙ rw (done-next s z, image-next s z) (sym (drawn-append (s .image) (strokesOf (s .machine) (lit s z)) (strokesBy (done (s .machine) (instruction g (s .machine)) (wordIn (second g (s .machine)))) es))))
+      ∙ rw (done-next s z, image-next s z) (sym (drawn-append (s .image) (strokesOf (s .machine) (lit s z)) (strokesBy g (done (s .machine) (instruction g (s .machine)) (wordIn (second g (s .machine)))) es))))
       b s
 
   pub run-stores : (b : ℕ) (s : State) → run g b s .counts .stores ≡ s .counts .stores + length (strokes g b s)
   unfolding strokes
   run-stores b s =
-      by-turns g (λ s es r. r .counts .stores ≡ s .counts .stores + length (strokesBy (s .machine) es))
+      by-turns g (λ s es r. r .counts .stores ≡ s .counts .stores + length (strokesBy g (s .machine) es))
       (λ s. omega arith)
       (λ s h. ap (λ (r : State). r .counts .stores) (refused-only g s h) ∙ omega arith)
       (λ s es r z ih.
       let m = s .machine in
       let c : step g m .pixels ≡ lit s z = rw (step-done g m z) in
-      let l = length-append (strokesOf m (lit s z)) (strokesBy (done m (instruction g m) (wordIn (second g m))) es) in
+      let l = length-append (strokesOf m (lit s z)) (strokesBy g (done m (instruction g m) (wordIn (second g m))) es) in
       let k = strokes-length m (lit s z) in
       let h = rw (done-next s z, c) at ih in
       omega arith)

@@ -14,7 +14,7 @@ use Rattle.definition.specs.Run.{State, run}
 use Rattle.definition.specs.declared.Pixel.{Pixel}
 use Rattle.definition.specs.declared.Machine.{Machine}
 use Rattle.definition.proofs.StepLaws.{on, run-turn}
-use Rattle.demands.specs.Conditions.{Among, InField}
+use Rattle.demands.specs.Conditions.{Among, InField, word}
 use Rattle.demands.specs.Strokes.{Stroke, strokes, Lights, lightsBetween, Plots, vectorBetween, longerBetween, OnVector, LitVector}
 use Rattle.demands.proofs.Runs.{run-add}
 use Rattle.demands.proofs.Vectors.{vector-point, vector-length, vector-first, vector-last, vector-near, point-near}
@@ -62,8 +62,8 @@ module _ (g : Given) where
   lit-vector : (m : Machine) (p : Pixel) → (m .mode ≡ 1) ⊎ (m .mode ≡ 2) → Lights g m p → OnVector m (step g m .machine) p
   lit-vector m p h r = on-vector m (step g m .machine) p (⊎-elim (λ e. at-mode e (in-words g m p .0 r .pixel)) (λ e. at-mode e (in-words g m p .0 r .pixel)) h)
     where
-      at-mode : {k : ℕ} → m .mode ≡ k → Among p (lightsBetween (m .mode) m (step g m .machine)) → Among p (lightsBetween k m (step g m .machine))
-      at-mode e i = subst (λ (k : ℕ). Among p (lightsBetween k m (step g m .machine))) e i
+      at-mode : {k : ℕ} → m .mode ≡ k → Among p (lightsBetween g (m .mode) (word g m) m (step g m .machine)) → Among p (lightsBetween g k (word g m) m (step g m .machine))
+      at-mode e i = subst (λ (k : ℕ). Among p (lightsBetween g k (word g m) m (step g m .machine))) e i
 
   pub vector-origin : (b : ℕ) (s : State) (t : Stroke) → Among t (strokes g b s) → (t .machine .mode ≡ 1) ⊎ (t .machine .mode ≡ 2)
       → (k : ℕ) × ((k < b) × ((t .machine ≡ run g k s .machine) × OnVector (run g k s .machine) (run g (suc k) s .machine) (t .pixel)))
@@ -89,14 +89,14 @@ module _ (g : Given) where
     lit-pixel : (p : Pixel) → Among p (vectorBetween m m′) → InField (shapeOf m) p → Among (stroke p) (strokes g b s)
     lit-pixel p h f = stroke-in-words g b s (stroke p) .1 (k, (below, (running, (refl, plots))))
       where
-        at-mode : {n : ℕ} → m .mode ≡ n → Among p (lightsBetween n m (step g m .machine)) → Among p (lightsBetween (m .mode) m (step g m .machine))
-        at-mode e i = subst (λ (n : ℕ). Among p (lightsBetween n m (step g m .machine))) (sym e) i
+        at-mode : {n : ℕ} → m .mode ≡ n → Among p (lightsBetween g n (word g m) m (step g m .machine)) → Among p (lightsBetween g (m .mode) (word g m) m (step g m .machine))
+        at-mode e i = subst (λ (n : ℕ). Among p (lightsBetween g n (word g m) m (step g m .machine))) (sym e) i
 
         there : Among p (vectorBetween m (step g m .machine))
         there = subst (λ (t : State). Among p (vectorBetween m (t .machine))) (one-further k s running) h
 
         plots : Plots g m p
-        plots = record { free = v .completes; on = v .writes; data-word = v .data-word; lit = v .is-lit; field = f; pixel = ⊎-elim (λ e. at-mode e there) (λ e. at-mode e there) (v .mode) }
+        plots = record { free = v .completes; on = v .writes; data-word = v .data-word; lit = inr (v .is-lit); field = f; pixel = ⊎-elim (λ e. at-mode e there) (λ e. at-mode e there) (v .mode) }
 
     pub vector-drawn : (i : ℕ) (d : Pixel) → i ≤ longerBetween m m′ → InField (shapeOf m) (getD (vectorBetween m m′) i d) → Among (stroke (getD (vectorBetween m m′) i d)) (strokes g b s)
     vector-drawn i d l f = lit-pixel _ (at-in d (vectorBetween m m′) i (omega (arith, vector-length (pixelAt square (m .x) (m .y)) (pixelAt square (m′ .x) (m′ .y))))) f

@@ -6,16 +6,16 @@ use mathlib.Core.Logic.{_⊎_, inl, inr, ⊎-elim, _↔_}
 use native.Mathlib.Omega.{arith}
 use lib.Dec.{eqb, leb}
 use borrow.Author.Tests.{eq-eqb, eqb-true, leb-true}
-use Rattle.definition.specs.Words.{none, bit, code, setsMode, notBuilt, order, item, decode, jumps, paired, isPaired, hasSecond}
+use Rattle.definition.specs.Words.{none, bit, code, firstCode, secondCode, setsMode, notBuilt, isCode, order, item, decode, jumps, paired, isPaired, hasSecond}
 use Rattle.definition.specs.declared.Order.{Order}
 use Rattle.definition.specs.declared.Order.the-variants.{StatusA}
 use Rattle.definition.specs.declared.Item.{Item}
 use Rattle.definition.specs.declared.Instruction.{Instruction}
 use Rattle.definition.specs.declared.Instruction.the-variants.{Does}
 use Rattle.definition.proofs.Exactly.{apart}
-use Rattle.definition.proofs.Plain.{_so_, _and_, _or_, is-most, is-equal, not-equal, not-true, both-true, either-true, failing}
+use Rattle.definition.proofs.Plain.{_so_, _and_, _or_, is-most, not-most, is-equal, not-equal, not-true, both-true, failing}
 use Rattle.definition.proofs.StepLaws.{pick-keeps}
-use Rattle.demands.specs.Conditions.{On, Off, NotBuilt, NoMode, FirstRefused, Pair, TwoWords, SecondRefused}
+use Rattle.demands.specs.Conditions.{On, Off, HasCell, NoCell, NotBuilt, NoMode, BadCode, FirstRefused, Pair, TwoWords, SecondRefused}
 
 -- ---- a bit that is not set is clear
 pub is-off : (n : ℕ) → (not (eqb (n % 2) 1) ≡ true) ↔ (n % 2 ≡ 0)
@@ -28,19 +28,48 @@ is-off n = not-true so not-equal so (λ h. go (n % 2) (omega arith) h, λ e q. o
 
 pub not-built : (w : ℕ) → (bit 15 w && notBuilt (code w) ≡ true) ↔ NotBuilt w
 unfolding notBuilt
-not-built w = both-true so is-equal and (either-true so is-equal or (both-true so is-most and is-most))
+not-built w = both-true so is-equal and (both-true so is-most and is-most)
 
 pub no-mode : (mode w : ℕ) → (not (bit 15 w) && eqb mode none ≡ true) ↔ NoMode mode w
 no-mode mode w = both-true so is-off (w / 2 ^ 15) and is-equal
 
+both-false : {s t : Bool} → (s && t ≡ false) ↔ ((s ≡ false) ⊎ (t ≡ false))
+both-false {s = true} {t = t} = (λ e. inr e, ⊎-elim (λ u. absurd (apart u)) (λ u. u))
+both-false {s = false} {t = t} = (λ e. inl e, λ w. refl)
+
+no-cell : (c : ℕ) → (isCode c ≡ false) ↔ NoCell c
+unfolding isCode
+no-cell c = both-false so not-most or not-most
+
+pub bad-code : (mode w : ℕ) → (not (bit 15 w) && eqb mode 0 && not (isCode (firstCode w) && isCode (secondCode w)) ≡ true) ↔ BadCode mode w
+bad-code mode w =
+    both-true so (both-true so is-off (w / 2 ^ 15) and is-equal) and (not-true so both-false so no-cell (firstCode w) or no-cell (secondCode w))
+    so (λ q. (q .0 .0, (q .0 .1, q .1)), λ q. ((q .0, q .1 .0), q .1 .1))
+
+-- a code has a cell or it has none
+pub one-cell : (c : ℕ) → (NoCell c → ⊥) ↔ HasCell c
+unfolding isCode
+one-cell c = (λ h. go (isCode c) refl h, λ k. ⊎-elim (λ l. let a = k .0 in omega arith) (λ l. let b = k .1 in omega arith))
+  where
+    go : (t : Bool) → isCode c ≡ t → (NoCell c → ⊥) → HasCell c
+    go true e h = (both-true so is-most and is-most) .0 e
+    go false e h = absurd (h (no-cell c .0 e))
+
 -- ---- words that no test of a first word refuses
--- a data word in a mode
-pub data-allowed : (mode w : ℕ) → Off 15 w → mode ≤ 6 → FirstRefused mode w → ⊥
-data-allowed mode w off some = ⊎-elim (λ q. let on = q .0 in omega arith) (λ q. let e = q .1 in omega arith)
+-- a data word in a mode from 1 on
+pub data-allowed : (mode w : ℕ) → Off 15 w → 1 ≤ mode → mode ≤ 6 → FirstRefused mode w → ⊥
+data-allowed mode w off some few = ⊎-elim (λ q. let on = q .0 in omega arith) (⊎-elim (λ q. let e = q .1 in omega arith) (λ q. let e = q .1 .0 in omega arith))
+
+-- a data word of mode 0 exactly when both its codes have a cell
+pub codes-allowed : (mode w : ℕ) → Off 15 w → mode ≡ 0 → (FirstRefused mode w → ⊥) ↔ (HasCell (firstCode w) × HasCell (secondCode w))
+codes-allowed mode w off z = (
+  λ h. (one-cell (firstCode w) .0 (λ n. h (inr (inr (off, (z, inl n))))), one-cell (secondCode w) .0 (λ n. h (inr (inr (off, (z, inr n)))))),
+  λ k. ⊎-elim (λ q. let on = q .0 in omega arith) (⊎-elim (λ q. let e = q .1 in omega arith) (λ q. ⊎-elim (one-cell (firstCode w) .1 (k .0)) (one-cell (secondCode w) .1 (k .1)) (q .1 .1))),
+)
 
 -- a status A
 pub status-a-allowed : (mode w : ℕ) → On 15 w → code w ≡ 14 → FirstRefused mode w → ⊥
-status-a-allowed mode w on c = ⊎-elim (λ q. ⊎-elim (λ h. omega arith) (λ h. let k = h .1 in omega arith) (q .1)) (λ q. let o = q .0 in omega arith)
+status-a-allowed mode w on c = ⊎-elim (λ q. let k = q .1 .1 in omega arith) (⊎-elim (λ q. let o = q .0 in omega arith) (λ q. let o = q .0 in omega arith))
 
 -- ---- a second word that is not refused has bit 15 clear
 pub second-allowed : (v : ℕ) → (SecondRefused v → ⊥) ↔ Off 15 v
@@ -53,7 +82,7 @@ neither h = (λ e. absurd (apart (sym e)), λ a. absurd (h a))
 jumping : (w : ℕ) → (jumps (order w) ≡ true) ↔ (code w ≡ 12)
 unfolding order setsMode
 jumping w =
-    pick-keeps P (setsMode (code w)) (λ e. neither (not-twelve (both-true {s = leb 1 (code w)} .0 e .1)))
+    pick-keeps P (setsMode (code w)) (λ e. neither (not-twelve e))
     λ a. pick-keeps P (eqb (code w) 12) (λ e. (λ h. is-equal .0 e, λ h. refl))
     λ b. let n = not-equal .0 b in pick-keeps P (eqb (code w) 13) (λ e. neither n)
     λ c. pick-keeps P (eqb (code w) 14) (λ e. neither n)
@@ -68,7 +97,8 @@ jumping w =
 pairing : (mode w : ℕ) → (paired (item mode w) ≡ true) ↔ ((mode ≡ 2) ⊎ (mode ≡ 3))
 unfolding item
 pairing mode w =
-    pick-keeps P (eqb mode 1) (λ e. let one = eqb-true mode 1 e in neither (⊎-elim (λ q. omega arith) (λ q. omega arith)))
+    pick-keeps P (eqb mode 0) (λ e. let z = eqb-true mode 0 e in neither (⊎-elim (λ q. omega arith) (λ q. omega arith)))
+    λ o. pick-keeps P (eqb mode 1) (λ e. let one = eqb-true mode 1 e in neither (⊎-elim (λ q. omega arith) (λ q. omega arith)))
     λ a. pick-keeps P (eqb mode 2) (λ e. (λ h. inl (is-equal .0 e), λ h. refl))
     λ b. pick-keeps P (eqb mode 3) (λ e. (λ h. inr (is-equal .0 e), λ h. refl))
     λ c. let n = ⊎-elim (not-equal .0 b) (not-equal .0 c) in pick-keeps P (eqb mode 4) (λ e. neither n)

@@ -9,7 +9,8 @@ use lib.IntN.{pos, negsuc, _+ℤ_}
 use lib.Signed.{_≤ℤ_, _<ℤ_}
 use Rattle.definition.specs.Image.{Shape, imageBytes}
 use Rattle.definition.specs.File.{tag, segments, offset, size, header, wordIn, numberIn}
-use Rattle.definition.specs.Words.{none, bits, code, decode}
+use Rattle.definition.specs.Words.{none, bits, code, firstCode, secondCode, decode}
+use Rattle.definition.specs.Characters.{setBytes}
 use Rattle.definition.specs.Machine.{statuses}
 use Rattle.definition.specs.Step.{Way, wayOf, changed, Given, first, second}
 use Rattle.definition.specs.Run.{State, run}
@@ -56,10 +57,14 @@ pub record InRange (u : Units) : Type 0 where
 pub record Fits (m : Machine) : Type 0 where
   pub x : InRange (m .x)
   pub y : InRange (m .y)
-  pub mode : (m .mode ≡ none) ⊎ ((1 ≤ m .mode) × (m .mode ≤ 6))
+  pub mode : (m .mode ≡ none) ⊎ (m .mode ≤ 6)
   pub value : m .value ≤ 3
   pub increment : m .increment ≤ 63
   pub status : Among (m .status) statuses
+
+-- a set of characters that may be lent: none, or eight bytes for each code
+abbrev pub Lendable : List ℕ → Type 0
+Lendable set = (length set ≡ 0) ⊎ (length set ≡ setBytes)
 
 -- every door of a run open
 pub record Open (l : Lent) (m : Machine) (im : List ℕ) (b : ℕ) : Type 0 where
@@ -67,6 +72,7 @@ pub record Open (l : Lent) (m : Machine) (im : List ℕ) (b : ℕ) : Type 0 wher
   pub file : Accepted (l .file)
   pub machine : Fits m
   pub budget : b ≤ 1000000
+  pub set : Lendable (l .set)
   pub running : m .status ≡ 0
 
 -- in a run of budget b there is a step, made from a running machine, of which P holds
@@ -86,16 +92,33 @@ On k w = bits k k w ≡ 1
 abbrev pub Off : ℕ → ℕ → Type 0
 Off k w = bits k k w ≡ 0
 
--- a word of a code that is not built; a data word with no mode
+-- a data word, bit 15 clear, is lit by its bit 14, and in mode 0 always
+abbrev pub LitWord : ℕ → ℕ → Type 0
+LitWord mode w = (mode ≡ 0) ⊎ On 14 w
+
+abbrev pub BlankWord : ℕ → ℕ → Type 0
+BlankWord mode w = (mode ≡ 0 → ⊥) × Off 14 w
+
+-- the codes of characters: those that have a cell, and those that have none
+abbrev pub HasCell : ℕ → Type 0
+HasCell c = (32 ≤ c) × (c ≤ 126)
+
+abbrev pub NoCell : ℕ → Type 0
+NoCell c = (c < 32) ⊎ (126 < c)
+
+-- a word of a code that is not built; a data word with no mode; one of mode 0 with a code outside 32 to 126 in either half
 abbrev pub NotBuilt : ℕ → Type 0
-NotBuilt w = On 15 w × ((code w ≡ 0) ⊎ ((7 ≤ code w) × (code w ≤ 11)))
+NotBuilt w = On 15 w × ((7 ≤ code w) × (code w ≤ 11))
 
 abbrev pub NoMode : ℕ → ℕ → Type 0
 NoMode mode w = Off 15 w × (mode ≡ none)
 
+abbrev pub BadCode : ℕ → ℕ → Type 0
+BadCode mode w = Off 15 w × ((mode ≡ 0) × (NoCell (firstCode w) ⊎ NoCell (secondCode w)))
+
 -- what a first word is refused for
 abbrev pub FirstRefused : ℕ → ℕ → Type 0
-FirstRefused mode w = NotBuilt w ⊎ NoMode mode w
+FirstRefused mode w = NotBuilt w ⊎ (NoMode mode w ⊎ BadCode mode w)
 
 -- a first word of modes 2 and 3; and any first word that has a second
 abbrev pub Pair : ℕ → ℕ → Type 0

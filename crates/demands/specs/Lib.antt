@@ -4,4 +4,5 @@ pub mod Exact
 pub mod Graphs
 pub mod With
 pub mod Outcomes
+pub mod Cells
 pub mod Strokes

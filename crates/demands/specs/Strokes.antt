@@ -22,8 +22,9 @@ use Rattle.definition.specs.declared.Pixel.{Pixel}
 use Rattle.definition.specs.declared.Machine.{Machine}
 use Rattle.definition.specs.declared.Item.{Item}
 use Rattle.definition.specs.declared.Instruction.the-variants.{Draws}
-use Rattle.demands.specs.Conditions.{Among, InField, On, Off, word, more}
+use Rattle.demands.specs.Conditions.{Among, InField, On, Off, LitWord, word, more}
 use Rattle.demands.specs.Exact.{exact}
+use Rattle.demands.specs.Cells.{characters}
 use Rattle.demands.specs.Ledger.{Entry, completed}
 
 -- ---- strokes
@@ -37,13 +38,13 @@ strokesOf m [] = []
 strokesOf m (p ∷ ps) = record { machine = m; pixel = p } ∷ strokesOf m ps
 
 -- those of instructions that a machine completes one after the other
-abbrev pub strokesBy : Machine → List Entry → List Stroke
-strokesBy m [] = []
-strokesBy m (e ∷ es) = strokesOf m (storedOf m (e .what) (e .second)) ++ strokesBy (done m (e .what) (e .second)) es
+abbrev pub strokesBy : Given → Machine → List Entry → List Stroke
+strokesBy g m [] = []
+strokesBy g m (e ∷ es) = strokesOf m (storedOf g m (e .what) (e .second)) ++ strokesBy g (done m (e .what) (e .second)) es
 
 -- of a run of budget b
 unfoldable pub strokes : Given → ℕ → State → List Stroke
-strokes g b s = strokesBy (s .machine) (completed g b s)
+strokes g b s = strokesBy g (s .machine) (completed g b s)
 
 -- their pixels, in their order
 abbrev pub strokePixels : List Stroke → List Pixel
@@ -70,7 +71,7 @@ pub record Lights (g : Given) (m : Machine) (p : Pixel) : Type 0 where
   pub item : Item
   pub lit : instruction g m ≡ Draws true item
   pub field : InField (shapeOf m) p
-  pub pixel : Among p (itemPixels m item (more g m))
+  pub pixel : Among p (itemPixels g m item (more g m))
 
 -- the vector between the positions of two machines, and its n
 abbrev pub vectorBetween : Machine → Machine → List Pixel
@@ -79,23 +80,25 @@ vectorBetween m m′ = vector (pixelAt (shapeOf m) (m .x) (m .y)) (pixelAt (shap
 abbrev pub longerBetween : Machine → Machine → ℕ
 longerBetween m m′ = longer (pixelAt (shapeOf m) (m .x) (m .y)) (pixelAt (shapeOf m) (m′ .x) (m′ .y))
 
--- what a lit data word lights, by its mode and the positions before and after its step: in modes 1 and 2 the vector between them, in modes 4 and 5 the pixel
--- whose stepped coordinate is still the one before, in modes 3 and 6 the pixel of the position after
-abbrev pub lightsBetween : ℕ → Machine → Machine → List Pixel
-lightsBetween mode m m′ =
-    pick (eqb mode 1 || eqb mode 2) (vectorBetween m m′)
+-- what a lit data word w lights, by its mode and the positions before and after its step: in mode 0 its characters from the position before, in the set that
+-- is given; in modes 1 and 2 the vector between the positions, in modes 4 and 5 the pixel whose stepped coordinate is still the one before, in modes 3 and 6
+-- the pixel of the position after
+abbrev pub lightsBetween : Given → ℕ → ℕ → Machine → Machine → List Pixel
+lightsBetween g mode w m m′ =
+    pick (eqb mode 0) (characters (g .set) m w)
+    (pick (eqb mode 1 || eqb mode 2) (vectorBetween m m′)
     (pick (eqb mode 4) (pixelAt (shapeOf m) (m′ .x) (m .y) ∷ [])
     (pick (eqb mode 5) (pixelAt (shapeOf m) (m .x) (m′ .y) ∷ [])
-    (pixelAt (shapeOf m) (m′ .x) (m′ .y) ∷ [])))
+    (pixelAt (shapeOf m) (m′ .x) (m′ .y) ∷ []))))
 
--- the same as Lights, in words and positions alone
+-- the same as Lights, in words, positions and the set of characters alone
 pub record Plots (g : Given) (m : Machine) (p : Pixel) : Type 0 where
   pub free : refusal g m ≡ 0
   pub on : m .write ≡ true
   pub data-word : Off 15 (word g m)
-  pub lit : On 14 (word g m)
+  pub lit : LitWord (m .mode) (word g m)
   pub field : InField (shapeOf m) p
-  pub pixel : Among p (lightsBetween (m .mode) m (step g m .machine))
+  pub pixel : Among p (lightsBetween g (m .mode) (word g m) m (step g m .machine))
 
 -- 2n times a coordinate of pixel i differs from the numerator of its exact point, between two positions in units, by less than 2n
 abbrev pub Near : ℕ → ℕ → ℤ → Units → Units → Type 0

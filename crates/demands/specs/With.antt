@@ -7,7 +7,7 @@ use Rattle.definition.specs.declared.Machine.{Machine}
 use Rattle.definition.specs.declared.Counts.{Counts}
 
 abbrev pub withFile : Lent → List ℕ → Lent
-withFile l f = record { file = f }
+withFile l f = record { file = f; set = l .set }
 
 abbrev pub withMachine : State → Machine → State
 withMachine s m = record { machine = m; image = s .image; counts = s .counts }

@@ -6,7 +6,7 @@ use definition::Ran;
 use definition::Read;
 use definition::Started;
 ghost use mathlib.Core.Path.{_≡_};
-ghost use Rattle.definition.specs.Calls.{plain, uncounted};
+ghost use Rattle.definition.specs.Calls.{lending, uncounted};
 ghost use Rattle.definition.specs.Promises.{Promise-check, Promise-fresh, Promise-start, Promise-run, Promise-step, Promise-clear, Promise-read};
 
 pub fn check(file: &[u16]) -> u8
@@ -44,24 +44,33 @@ fn turned_away(m: Machine, door: u8) -> Ran
 }
 
 // A run of budget 1.
-pub fn step(file: &[u16], m: Machine, image: &mut [u8]) -> Ran
-    ensures { λ r. ⌜ Promise-step (plain (now (file .entry))) m (now (image .entry)) r (now (image .exit)) ⌝ }
+pub fn step(file: &[u16], m: Machine, image: &mut [u8], set: &[u8]) -> Ran
+    ensures { λ r. ⌜ Promise-step (lending (now (file .entry)) (now (set .entry))) m (now (image .entry)) r (now (image .exit)) ⌝ }
 {
-    let why = doors::run_door(file, m, image, 1);
+    let why = doors::lent_door(file, image);
     if why != 0 {
         return turned_away(m, why);
     }
-    run::run(file, m, image, 1)
+    let also = doors::asked_door(m, 1, set);
+    if also != 0 {
+        return turned_away(m, also);
+    }
+    run::run(file, m, image, 1, set)
 }
 
-pub fn run(file: &[u16], m: Machine, image: &mut [u8], budget: u32) -> Ran
-    ensures { λ r. ⌜ Promise-run (plain (now (file .entry))) m (now (image .entry)) budget r (now (image .exit)) ⌝ }
+// The set is the host's own characters, 760 bytes, or empty: then the built-in set serves.
+pub fn run(file: &[u16], m: Machine, image: &mut [u8], budget: u32, set: &[u8]) -> Ran
+    ensures { λ r. ⌜ Promise-run (lending (now (file .entry)) (now (set .entry))) m (now (image .entry)) budget r (now (image .exit)) ⌝ }
 {
-    let door = doors::run_door(file, m, image, budget);
-    if door != 0 {
-        return turned_away(m, door);
+    let wrong = doors::lent_door(file, image);
+    if wrong != 0 {
+        return turned_away(m, wrong);
     }
-    run::run(file, m, image, budget)
+    let shut = doors::asked_door(m, budget, set);
+    if shut != 0 {
+        return turned_away(m, shut);
+    }
+    run::run(file, m, image, budget, set)
 }
 
 pub fn clear(image: &mut [u8]) -> u8

@@ -1,15 +1,21 @@
-// The doors of a call: the ranges of a machine's fields, and all that a run asks before its first step.
+// The doors of a call: the ranges of a machine's fields, and all that a run asks before its first step, in two parts.
 use definition::Machine;
 ghost use mathlib.Core.Path.{_≡_};
 ghost use Rattle.definition.specs.Machine.{isMode, isStatus, ranged};
-ghost use Rattle.definition.specs.Calls.{plain, runDoor};
+ghost use mathlib.Core.Bool.{_||_};
+ghost use lib.Dec.{eqb};
+ghost use lib.ListN.{length};
+ghost use Rattle.definition.specs.Characters.{setBytes};
+ghost use Rattle.doors.specs.Doors.{lentDoor, askedDoor};
 
 const MOST_STEPS: u32 = 1000000;
+
+const SET_BYTES: usize = 760;
 
 fn is_mode(mode: u8) -> bool
     ensures { λ r. ⌜ r ≡ isMode mode ⌝ }
 {
-    mode == words::NO_MODE || 1 <= mode && mode <= 6
+    mode == words::NO_MODE || mode <= 6
 }
 
 // By the ends of the table's spans, so that every return is a span of its own.
@@ -22,7 +28,10 @@ fn is_status(status: u8) -> bool
     if status < 21 {
         return false;
     }
-    status < 28
+    if status < 28 {
+        return true;
+    }
+    status == 32
 }
 
 // Every field is in its range, or else 16.
@@ -47,23 +56,39 @@ pub fn ranged(m: Machine) -> bool
     is_status(m.status)
 }
 
-// In this order: 11, 12 to 15, 16, 17, 28; or 0.
-pub fn run_door(file: &[u16], m: Machine, image: &[u8], budget: u32) -> u8
-    ensures { λ r. ⌜ r ≡ runDoor (plain (now (file .entry))) m (now (image .entry)) budget ⌝ }
+// A lent set of characters: none, or a whole one.
+fn is_set(set: &[u8]) -> bool
+    ensures { λ r. ⌜ r ≡ eqb (length (now (set .entry))) 0 || eqb (length (now (set .entry))) setBytes ⌝ }
 {
-    let status = m.status;
+    if set.len() == 0 {
+        return true;
+    }
+    set.len() == SET_BYTES
+}
+
+// The first doors of a run, in this order: 11, 12 to 15; or 0.
+pub fn lent_door(file: &[u16], image: &[u8]) -> u8
+    ensures { λ r. ⌜ r ≡ lentDoor (now (file .entry)) (now (image .entry)) ⌝ }
+{
     if image.len() != image::BYTES {
         return 11;
     }
-    let wrong = file::check(file);
-    if wrong != 0 {
-        return wrong;
-    }
+    file::check(file)
+}
+
+// The doors after them, in this order: 16, 17, 18, 28; or 0. They are a function of their own so that a call has both in place (docs/PERFORMANCE.md).
+pub fn asked_door(m: Machine, budget: u32, set: &[u8]) -> u8
+    ensures { λ r. ⌜ r ≡ askedDoor m budget (now (set .entry)) ⌝ }
+{
+    let status = m.status;
     if !ranged(m) {
         return 16;
     }
     if MOST_STEPS < budget {
         return 17;
+    }
+    if !is_set(set) {
+        return 18;
     }
     if status != 0 {
         return 28;

@@ -30,13 +30,13 @@ fn machine_at(mode: u8, x: i32, y: i32) -> Machine {
 // A file of two words, on an image that nothing looks at.
 fn run_words(first: u16, second: u16, m: Machine, budget: u32) -> Ran {
     let mut image = [0u8; 65536];
-    display::run(&file_of(first, second), m, &mut image, budget)
+    display::run(&file_of(first, second), m, &mut image, budget, b"")
 }
 
 // One short vector, from (x, y) in units, on the image cleared.
 fn draw(word: u16, x: i32, y: i32, image: &mut [u8; 65536]) -> Ran {
     display::clear(image);
-    display::run(&file_of(word, 0), machine_at(1, x, y), image, 1)
+    display::run(&file_of(word, 0), machine_at(1, x, y), image, 1, b"")
 }
 
 fn read(image: &[u8; 65536], x: i32, y: i32) -> Read {
@@ -126,7 +126,7 @@ fn run_no_op(address: u16) -> Ran {
     file[4113] = 0o164000;
     let mut image = [0u8; 65536];
     let started = display::start(display::fresh(), address);
-    display::run(&file, started.machine, &mut image, 1)
+    display::run(&file, started.machine, &mut image, 1, b"")
 }
 
 fn no_op_at(mut t: Tally, name: &[u8], address: u16, counter: u32) -> Tally {
@@ -139,7 +139,7 @@ fn no_op_at(mut t: Tally, name: &[u8], address: u16, counter: u32) -> Tally {
 fn run_graph(image: &mut [u8; 65536]) -> Ran {
     let mut m = machine_at(5, 10, 0);
     m.increment = 4;
-    display::run(&file_of(0o040100, 0o040104), m, image, 2)
+    display::run(&file_of(0o040100, 0o040104), m, image, 2, b"")
 }
 
 fn graph(mut t: Tally) -> Tally {

@@ -19,7 +19,7 @@ use Rattle.definition.specs.Image.{imageBytes, Left, left}
 use Rattle.definition.specs.File.{headDoors, segmentDoors, fileDoors}
 use Rattle.definition.specs.Machine.{machineDoors, startedAt}
 use Rattle.definition.specs.Run.{begun, run}
-use Rattle.definition.specs.Calls.{imageDoors, budgetDoors, runningDoors, Lent, plain, given, startCall, runDoors, runDoor, answered, turnedAway, runCall}
+use Rattle.definition.specs.Calls.{imageDoors, budgetDoors, setDoors, runningDoors, Lent, given, startCall, runDoors, runDoor, answered, turnedAway, runCall}
 use Rattle.definition.specs.Promises.{Promise-read}
 use Rattle.definition.specs.declared.Machine.{Machine}
 use Rattle.definition.specs.declared.Ran.{Ran}
@@ -107,7 +107,7 @@ module _ (l : Lent) (m : HostMachine) (im : List ℕ) (b : ℕ) where
   same-door = rw (ranged-taken m, status-taken m)
 
   flags-open : hostDoor l m im b ≡ 0 → flags m ≡ true
-  unfolding hostDoor hostDoors imageDoors fileDoors headDoors segmentDoors numberDoors budgetDoors runningDoors
+  unfolding hostDoor hostDoors imageDoors fileDoors headDoors segmentDoors numberDoors budgetDoors setDoors runningDoors
   flags-open z = ranged-flags m (not-false .0 (fails 16 (hostDoors l m im b) refl z))
 
   whole-run : runNumbers m (runCall l (taken m) im b) ≡ hostRun l m im b
@@ -151,9 +151,9 @@ module _ (l : Lent) (m : HostMachine) (im : List ℕ) (b : ℕ) where
   run-16 = rw (← whole-run) (demands.run-16 l (taken m) im b so itself and itself and never (fits-taken m))
 
 -- what the code does: a run of the machine that the call works on
-pub host-ran : (f : List ℕ) (m : HostMachine) (im : List ℕ) (b : ℕ) {n : Machine} → n ≡ taken m → {r : Ran} {im′ : List ℕ} → left r im′ ≡ runCall (plain f) n im b
-    → {k : HostRan} → k ≡ ranOf m r → Promise-host-run (plain f) m im b k im′
-host-ran f m im b en er ek = rw ek (ap (runNumbers m) (rw en at er) ∙ whole-run (plain f) m im b)
+pub host-ran : (l : Lent) (m : HostMachine) (im : List ℕ) (b : ℕ) {n : Machine} → n ≡ taken m → {r : Ran} {im′ : List ℕ} → left r im′ ≡ runCall l n im b
+    → {k : HostRan} → k ≡ ranOf m r → Promise-host-run l m im b k im′
+host-ran l m im b en er ek = rw ek (ap (runNumbers m) (rw en at er) ∙ whole-run l m im b)
 
 -- two files that give every machine one run
 pub alike : (l k : Lent) → ((m : Machine) (im : List ℕ) (b : ℕ) → runCall l m im b ≡ runCall k m im b) → (m : HostMachine) (im : List ℕ) (b : ℕ) → hostRun l m im b ≡ hostRun k m im b

@@ -8,7 +8,7 @@ use Rattle.definition.specs.Image.{Left, left}
 use Rattle.definition.specs.File.{fileDoors}
 use Rattle.definition.specs.Machine.{startedAt}
 use Rattle.definition.specs.Run.{State, begun, run}
-use Rattle.definition.specs.Calls.{Lent, given, imageDoors, budgetDoors, runningDoors}
+use Rattle.definition.specs.Calls.{Lent, given, imageDoors, budgetDoors, setDoors, runningDoors}
 use Rattle.definition.specs.declared.Ran.{Ran}
 use Rattle.definition.specs.declared.Read.{Read}
 use Rattle.definition.specs.declared.Started.{Started}
@@ -26,9 +26,9 @@ hostStart m a =
     let n = firstOf (numberDoors m) in
     record { machine = pick (eqb n 0) (numbersOf (startedAt (machineOf m) a)) m; answer = n }
 
--- 11, 12 to 15, 16, 17, 28
+-- 11, 12 to 15, 16, 17, 18, 28
 unfoldable pub hostDoors : Lent → HostMachine → List ℕ → ℕ → List Test
-hostDoors l m im b = joined (imageDoors im ∷ fileDoors (l .file) ∷ numberDoors m ∷ budgetDoors b ∷ runningDoors (machineOf m) ∷ [])
+hostDoors l m im b = joined (imageDoors im ∷ fileDoors (l .file) ∷ numberDoors m ∷ budgetDoors b ∷ setDoors (l .set) ∷ runningDoors (machineOf m) ∷ [])
 
 unfoldable pub hostDoor : Lent → HostMachine → List ℕ → ℕ → ℕ
 hostDoor l m im b = firstOf (hostDoors l m im b)

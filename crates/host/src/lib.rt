@@ -6,7 +6,7 @@ use numbers::HostMachine;
 use numbers::HostRan;
 use numbers::HostRead;
 use numbers::HostStarted;
-ghost use Rattle.definition.specs.Calls.{plain};
+ghost use Rattle.definition.specs.Calls.{lending};
 ghost use Rattle.definition.specs.Promises.{Promise-check, Promise-clear};
 ghost use Rattle.host.specs.Promises.{Promise-host-fresh, Promise-host-start, Promise-host-run, Promise-host-step, Promise-host-read, Promise-host-interface};
 
@@ -42,17 +42,23 @@ pub extern "C" fn roadparsnip_run(
     m: HostMachine,
     image: &mut [u8],
     budget: u32,
+    set: &[u8],
 ) -> HostRan
-    ensures { λ r. ⌜ Promise-host-run (plain (now (file .entry))) m (now (image .entry)) budget r (now (image .exit)) ⌝ }
+    ensures { λ r. ⌜ Promise-host-run (lending (now (file .entry)) (now (set .entry))) m (now (image .entry)) budget r (now (image .exit)) ⌝ }
 {
-    numbers::ran_of(m, display::run(file, numbers::taken(m), image, budget))
+    numbers::ran_of(m, display::run(file, numbers::taken(m), image, budget, set))
 }
 
 #[no_mangle]
-pub extern "C" fn roadparsnip_step(file: &[u16], m: HostMachine, image: &mut [u8]) -> HostRan
-    ensures { λ r. ⌜ Promise-host-step (plain (now (file .entry))) m (now (image .entry)) r (now (image .exit)) ⌝ }
+pub extern "C" fn roadparsnip_step(
+    file: &[u16],
+    m: HostMachine,
+    image: &mut [u8],
+    set: &[u8],
+) -> HostRan
+    ensures { λ r. ⌜ Promise-host-step (lending (now (file .entry)) (now (set .entry))) m (now (image .entry)) r (now (image .exit)) ⌝ }
 {
-    numbers::ran_of(m, display::step(file, numbers::taken(m), image))
+    numbers::ran_of(m, display::step(file, numbers::taken(m), image, set))
 }
 
 #[no_mangle]

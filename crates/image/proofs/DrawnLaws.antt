@@ -1,4 +1,4 @@
--- Laws of drawing pixels: one that is in the field or not, one after others, and how many are stored at most.
+-- Laws of drawing pixels: one that is in the field or not, some after others, and how many are stored at most.
 use Prim.Native.Nat.{ℕ, _+_, _≤_}
 use mathlib.Core.Bool.{Bool, true, false}
 use mathlib.Core.Path.{_≡_, sym, ap, _∙_}
@@ -33,24 +33,36 @@ module _ (s : Shape) (pen : Pen) (im : List ℕ) (p : Pixel) {gx : Index} where
       let iy = index-at (s .height) (p .y) (sym e′ ∙ a′) in
       rw (ix .0, iy .0, st, ix .1, iy .1)
 
--- ---- one pixel after others
-module _ (s : Shape) (pen : Pen) (im : List ℕ) (ps : List Pixel) (p : Pixel) where
-  pub drawn-more : {n r : ℕ} {im′ im″ : List ℕ} → left n im′ ≡ drawn s pen im ps → left r im″ ≡ drawn s pen im′ (p ∷ []) → left (n + r) im″ ≡ drawn s pen im (ps ++ (p ∷ []))
+-- ---- pixels after others
+module _ (s : Shape) (pen : Pen) (im : List ℕ) (ps : List Pixel) where
+  pub drawn-then : (qs : List Pixel) {n r : ℕ} {im′ im″ : List ℕ} → left n im′ ≡ drawn s pen im ps → left r im″ ≡ drawn s pen im′ qs → left (n + r) im″ ≡ drawn s pen im (ps ++ qs)
   unfolding drawn
-  drawn-more {n} {r} {im′} {im″} e d =
+  drawn-then qs {n} {r} {im′} {im″} e d =
       let before = ap (λ (l : Left ℕ). l .image) e in
       let count = ap (λ (l : Left ℕ). l .result) e in
       let more = ap (λ (l : Left ℕ). l .result) d in
       let after = ap (λ (l : Left ℕ). l .image) d in
-      let c : n + r ≡ length (inside s (ps ++ (p ∷ []))) = rw (inside-append s ps (p ∷ [])) (rw (count, more) (sym (length-append (inside s ps) (inside s (p ∷ []))))) in
-      let i : im″ ≡ stores s pen im (inside s (ps ++ (p ∷ []))) = rw (inside-append s ps (p ∷ [])) (after ∙ ap (λ (l : List ℕ). stores s pen l (inside s (p ∷ []))) before ∙ sym (stores-append s pen im (inside s ps) (inside s (p ∷ [])))) in
+      let c : n + r ≡ length (inside s (ps ++ qs)) = rw (inside-append s ps qs) (rw (count, more) (sym (length-append (inside s ps) (inside s qs)))) in
+      let i : im″ ≡ stores s pen im (inside s (ps ++ qs)) = rw (inside-append s ps qs) (after ∙ ap (λ (l : List ℕ). stores s pen l (inside s qs)) before ∙ sym (stores-append s pen im (inside s ps) (inside s qs))) in
       rw (c, i)
 
--- ---- a pixel is at most one store
-pub one-at-most : (s : Shape) (pen : Pen) (im : List ℕ) (p : Pixel) {r : ℕ} {im′ : List ℕ} → left r im′ ≡ drawn s pen im (p ∷ []) → r ≤ 1
-unfolding drawn inside
-one-at-most s pen im p {r} e = go (inField s p) (ap (λ (l : Left ℕ). l .result) e)
+  pub drawn-more : (p : Pixel) {n r : ℕ} {im′ im″ : List ℕ} → left n im′ ≡ drawn s pen im ps → left r im″ ≡ drawn s pen im′ (p ∷ []) → left (n + r) im″ ≡ drawn s pen im (ps ++ (p ∷ []))
+  drawn-more p e d = drawn-then (p ∷ []) e d
+
+-- ---- how many at most
+pub inside-shorter : (s : Shape) (ps : List Pixel) → length (inside s ps) ≤ length ps
+unfolding inside
+inside-shorter s [] = omega arith
+inside-shorter s (p ∷ ps) = go (inField s p) (inside-shorter s ps)
   where
-    go : (t : Bool) → r ≡ length (pick t (p ∷ []) []) → r ≤ 1
-    go true q = omega arith
-    go false q = omega arith
+    go : (t : Bool) → length (inside s ps) ≤ length ps → length (pick t (p ∷ inside s ps) (inside s ps)) ≤ length (p ∷ ps)
+    go true h = omega arith
+    go false h = omega arith
+
+module _ (s : Shape) (pen : Pen) (im : List ℕ) where
+  pub drawn-few : (ps : List Pixel) {r : ℕ} {im′ : List ℕ} → left r im′ ≡ drawn s pen im ps → r ≤ length ps
+  unfolding drawn
+  drawn-few ps e = let c = ap (λ (l : Left ℕ). l .result) e in omega (arith, inside-shorter s ps)
+
+  pub one-at-most : (p : Pixel) {r : ℕ} {im′ : List ℕ} → left r im′ ≡ drawn s pen im (p ∷ []) → r ≤ 1
+  one-at-most p e = drawn-few (p ∷ []) e

@@ -1,3 +1,4 @@
+pub mod CellCounts
 pub mod DigitLaws
 pub mod DrawnLaws
 pub mod StoredLaws

@@ -62,12 +62,12 @@ fn refused(answer: u8) -> Line
     }
 }
 
-// A fresh machine, on an image that is cleared.
+// A fresh machine, on an image that is cleared, with the built-in characters.
 fn line_of_run(file: &[u16]) -> Line
     ensures { λ r. ⌜ numbers r ≡ ranLine (runCall (plain (now (file .entry))) fresh blank plotBudget .result) ⌝ }
 {
     let mut image = [0u8; 65536];
-    let ran = display::run(file, display::fresh(), &mut image, BUDGET);
+    let ran = display::run(file, display::fresh(), &mut image, BUDGET, b"");
     let x = ran.machine.x;
     let y = ran.machine.y;
     Line {

@@ -1,6 +1,6 @@
 -- The cases of a step, a law for each: what the fetches and the words were, and the definition's step.
 use Prim.Native.Nat.{ℕ}
-use mathlib.Core.Bool.{Bool, true, false, _||_}
+use mathlib.Core.Bool.{Bool, true, false, not, _&&_, _||_}
 use mathlib.Core.List.{List, [], _++_}
 use mathlib.Core.Path.{_≡_, refl, sym, ap, subst, _∙_}
 use native.Mathlib.Omega.{arith}
@@ -12,10 +12,11 @@ use Rattle.whole.specs.Parts.{whole}
 use Rattle.definition.specs.Choice.{pick, Test, firstOf}
 use Rattle.definition.specs.Image.{left, stores}
 use Rattle.definition.specs.File.{wordIn, numberOf, numberIn, fetchRefusals}
-use Rattle.definition.specs.Words.{bit, bits, long, coordinate, item, decode, jumps, paired, firstRefusals, secondRefusals}
+use Rattle.definition.specs.Words.{bit, bits, long, coordinate, firstCode, secondCode, item, isLit, decode, jumps, paired, isCode, firstRefusals, secondRefusals}
 use Rattle.definition.specs.Machine.{withCounter, inRange}
 use Rattle.definition.specs.Step.{way, pointAt, vectorBy, leaves, itemWay, itemPixels, ordered, done, Given, first, second, wayRefusals, refusals, refusal, Step, completes, refuses, step}
 use Rattle.definition.specs.Step.Change.{Set, Move}
+use Rattle.definition.specs.Calls.{lending, plain, given}
 use Rattle.definition.specs.declared.Units.{Units}
 use Rattle.definition.specs.declared.Machine.{Machine}
 use Rattle.definition.specs.declared.Unfetched.{Unfetched}
@@ -25,11 +26,11 @@ use Rattle.definition.specs.declared.Fetched.the-variants.{Word, Refused}
 use Rattle.definition.specs.declared.Order.{Order}
 use Rattle.definition.specs.declared.Order.the-variants.{SetMode, Jump, NoOp, StatusA, Increment, StatusC}
 use Rattle.definition.specs.declared.Item.{Item}
-use Rattle.definition.specs.declared.Item.the-variants.{LongVector, AbsolutePoint}
+use Rattle.definition.specs.declared.Item.the-variants.{LongVector, AbsolutePoint, Characters}
 use Rattle.definition.specs.declared.Instruction.{Instruction}
 use Rattle.definition.specs.declared.Instruction.the-variants.{Does, Draws}
-use Rattle.definition.proofs.Exactly.{apart, passes, stops}
-use Rattle.definition.proofs.Plain.{both-true, is-mostZ}
+use Rattle.definition.proofs.Exactly.{apart, passes, stops, fails}
+use Rattle.definition.proofs.Plain.{not-false, both-true, is-mostZ}
 use Rattle.definition.proofs.StepLaws.{pick-keeps}
 use Rattle.outcome.specs.Outcome.{told, stepped, completed}
 use Rattle.outcome.specs.declared.Stepped.{Stepped}
@@ -37,7 +38,7 @@ use Rattle.items.specs.Goes.{kept, placed, goes}
 use Rattle.machine.specs.declared.Second.{Second}
 use Rattle.machine.specs.declared.Second.the-variants.{Taken, Turned}
 use Rattle.machine.specs.Seconds.{Seconds}
-use Rattle.machine.specs.Rest.{SetsWithin, restRefusals, rest, passedBy}
+use Rattle.machine.specs.Rest.{Drawable, restRefusals, rest, passedBy}
 
 -- a step that lights no pixel leaves the image
 dark : (m : Machine) (im : List ℕ) {t s : Step} {r : Stepped} → t .pixels ≡ [] → r ≡ told t → t ≡ s → left r im ≡ stepped m im s
@@ -86,29 +87,50 @@ by-27 m false s = refl
 
 item-goes : (g : Given) (m : Machine) (lit : Bool) (it : Item)
     → firstOf (restRefusals m (Draws lit it) (second g m)) ≡ firstOf (wayRefusals m (itemWay (m .increment) it (wordIn (second g m))))
-    → goes m lit (itemWay (m .increment) it (wordIn (second g m))) (itemPixels m it (wordIn (second g m))) (paired it) ≡ rest g m (Draws lit it)
+    → goes m lit (itemWay (m .increment) it (wordIn (second g m))) (itemPixels g m it (wordIn (second g m))) (paired it) ≡ rest g m (Draws lit it)
 unfolding rest goes placed kept done wayRefusals firstOf
 item-goes g m lit it e =
     rw e (
     by-27 m (leaves (m .x) (itemWay (m .increment) it (wordIn (second g m)) .x) || leaves (m .y) (itemWay (m .increment) it (wordIn (second g m)) .y))
-    (completes m (Draws lit it) (wordIn (second g m)))
+    (completes g m (Draws lit it) (wordIn (second g m)))
     )
 
 one-word : (g : Given) (m : Machine) (lit : Bool) (it : Item) → paired it ≡ false
-    → goes m lit (itemWay (m .increment) it (wordIn (second g m))) (itemPixels m it (wordIn (second g m))) false ≡ rest g m (Draws lit it)
+    → goes m lit (itemWay (m .increment) it (wordIn (second g m))) (itemPixels g m it (wordIn (second g m))) false ≡ rest g m (Draws lit it)
 unfolding restRefusals firstOf fetchRefusals secondRefusals wayRefusals
 one-word g m lit it p =
-    ap (goes m lit (itemWay (m .increment) it (wordIn (second g m))) (itemPixels m it (wordIn (second g m)))) (sym p)
+    ap (goes m lit (itemWay (m .increment) it (wordIn (second g m))) (itemPixels g m it (wordIn (second g m)))) (sym p)
     ∙ item-goes g m lit it (rw p)
 
 module _ (g : Given) (m : Machine) (im : List ℕ) (lit : Bool) (it : Item) {it′ : Item} (e : it ≡ it′) {r : Stepped} {im′ : List ℕ} where
   pub one-done : paired it′ ≡ false
-      → left r im′ ≡ stepped m im (goes m lit (itemWay (m .increment) it′ (wordIn (second g m))) (itemPixels m it′ (wordIn (second g m))) false)
+      → left r im′ ≡ stepped m im (goes m lit (itemWay (m .increment) it′ (wordIn (second g m))) (itemPixels g m it′ (wordIn (second g m))) false)
       → left r im′ ≡ stepped m im (rest g m (Draws lit it))
   one-done p er = rw e (er ∙ ap (stepped m im) (one-word g m lit it′ p))
 
-  pub two-done : left r im′ ≡ stepped m im (rest g m (Draws lit it′)) → left r im′ ≡ stepped m im (rest g m (Draws lit it))
-  two-done er = rw e er
+  pub two-done : (h : Given) → rest h m (Draws lit it′) ≡ rest g m (Draws lit it′) → left r im′ ≡ stepped m im (rest h m (Draws lit it′)) → left r im′ ≡ stepped m im (rest g m (Draws lit it))
+  two-done h same er = rw e (er ∙ ap (stepped m im) same)
+
+-- characters, which are lit
+module _ (g : Given) (m : Machine) (im : List ℕ) (lit : Bool) (it : Item) {first second : ℕ} (e : it ≡ Characters first second) (fine : Drawable lit (Characters first second)) {r : Stepped} {im′ : List ℕ} where
+  pub characters-done : left r im′ ≡ stepped m im (goes m true (itemWay (m .increment) (Characters first second) 0) (itemPixels g m (Characters first second) 0) false)
+      → left r im′ ≡ stepped m im (rest g m (Draws lit it))
+  characters-done er = one-done g m im lit it e refl (rw (fine .0) er)
+
+-- ---- what does not depend on the lent set: an order, and an item of two words
+module _ (f set : List ℕ) (m : Machine) where
+  pub order-alone : (o : Order) → rest (given (plain f)) m (Does o) ≡ rest (given (lending f set)) m (Does o)
+  unfolding rest
+  order-alone o = refl
+
+  module _ (lit : Bool) (x : Units) where
+    pub long-alone : rest (given (plain f)) m (Draws lit (LongVector x)) ≡ rest (given (lending f set)) m (Draws lit (LongVector x))
+    unfolding rest
+    long-alone = refl
+
+    pub absolute-alone : rest (given (plain f)) m (Draws lit (AbsolutePoint x)) ≡ rest (given (lending f set)) m (Draws lit (AbsolutePoint x))
+    unfolding rest
+    absolute-alone = refl
 
 -- ---- orders
 module _ (g : Given) (m : Machine) where
@@ -167,7 +189,7 @@ module _ (g : Given) (m : Machine) (im : List ℕ) (lit : Bool) {got : Second} (
       dark m im refl er (rest-for g m (Draws lit it) n h (s .0))
 
   module _ {v : ℕ} (e : got ≡ Taken v) where
-    two-words : (it : Item) → paired it ≡ true → goes m lit (itemWay (m .increment) it v) (itemPixels m it v) true ≡ rest g m (Draws lit it)
+    two-words : (it : Item) → paired it ≡ true → goes m lit (itemWay (m .increment) it v) (itemPixels g m it v) true ≡ rest g m (Draws lit it)
     unfolding restRefusals firstOf fetchRefusals secondRefusals wayRefusals
     two-words it p =
         let s = subst (Seconds g m) e eg in
@@ -197,22 +219,35 @@ coordinate-in w = both-true {s = leZ (negsuc 4095) (pos (bits 9 0 w))} .1 (refl,
     within : (w : ℕ) → pos (bits 9 0 w) ≤ℤ pos 4095
     within w = omega whole
 
-item-sets : (mode w : ℕ) → SetsWithin (item mode w)
-unfolding item
-item-sets mode w =
-    pick-keeps SetsWithin (eqb mode 1) (λ e. tt)
-    λ a. pick-keeps SetsWithin (eqb mode 2) (λ e. tt)
-    λ b. pick-keeps SetsWithin (eqb mode 3) (λ e. coordinate-in w)
-    λ c. pick-keeps SetsWithin (eqb mode 4) (λ e. coordinate-in w)
-    λ d. pick-keeps SetsWithin (eqb mode 5) (λ e. coordinate-in w) (λ e. tt)
+-- ---- a first word that is not refused
+module _ (mode w : ℕ) (z : firstOf (firstRefusals mode w) ≡ 0) where
+  abbrev Fine : Item → Type 0
+  Fine = Drawable (isLit mode w)
 
-pub decode-sets : (mode w : ℕ) {i : Instruction} {lit : Bool} {it : Item} → i ≡ decode mode w → i ≡ Draws lit it → SetsWithin it
-unfolding decode
-decode-sets mode w ei e = subst P (sym ei ∙ e) (pick-keeps P (bit 15 w) (λ e. tt) (λ e. item-sets mode w))
-  where
-    P : Instruction → Type 0
-    P (Does o) = Unit {0}
-    P (Draws lit it) = SetsWithin it
+  characters-fine : bit 15 w ≡ false → eqb mode 0 ≡ true → Fine (Characters (firstCode w) (secondCode w))
+  unfolding firstRefusals
+  characters-fine clear mode-0 =
+      let h : not (isCode (firstCode w) && isCode (secondCode w)) ≡ false = rw (clear, mode-0) at (fails 32 (firstRefusals mode w) refl z) in
+      let codes = both-true .0 (not-false .0 h) in
+      (rw mode-0, codes .0, codes .1)
+
+  item-fine : bit 15 w ≡ false → Fine (item mode w)
+  unfolding item
+  item-fine clear =
+      pick-keeps Fine (eqb mode 0) (characters-fine clear)
+      λ z. pick-keeps Fine (eqb mode 1) (λ e. tt)
+      λ a. pick-keeps Fine (eqb mode 2) (λ e. tt)
+      λ b. pick-keeps Fine (eqb mode 3) (λ e. coordinate-in w)
+      λ c. pick-keeps Fine (eqb mode 4) (λ e. coordinate-in w)
+      λ d. pick-keeps Fine (eqb mode 5) (λ e. coordinate-in w) (λ e. tt)
+
+  pub decode-drawable : {i : Instruction} {lit : Bool} {it : Item} → i ≡ decode mode w → i ≡ Draws lit it → Drawable lit it
+  unfolding decode
+  decode-drawable ei e = subst P (sym ei ∙ e) (pick-keeps P (bit 15 w) (λ e. tt) item-fine)
+    where
+      P : Instruction → Type 0
+      P (Does o) = Unit {0}
+      P (Draws lit it) = Drawable lit it
 
 -- ---- the step, from its first word on
 module _ (g : Given) (m : Machine) {got : Fetched} (eg : got ≡ first g m) where
@@ -243,8 +278,8 @@ module _ (g : Given) (m : Machine) {got : Fetched} (eg : got ≡ first g m) wher
       taken : {i′ : Instruction} → i ≡ i′ → rest g m i′ ≡ step g m
       taken e′ = ap (rest g m) (sym e′ ∙ ei) ∙ word-taken z
 
-      pub done-order : {o : Order} → i ≡ Does o → {r : Stepped} → r ≡ told (rest g m (Does o)) → left r im ≡ stepped m im (step g m)
-      done-order {o} e′ er = dark m im (order-dark g m o) er (taken e′)
+      pub done-order : {o : Order} → i ≡ Does o → (h : Given) → rest h m (Does o) ≡ rest g m (Does o) → {r : Stepped} → r ≡ told (rest h m (Does o)) → left r im ≡ stepped m im (step g m)
+      done-order {o} e′ h same er = dark m im (order-dark h m o) er (same ∙ taken e′)
 
       pub done-item : {lit : Bool} {it : Item} → i ≡ Draws lit it → {r : Stepped} {im′ : List ℕ} → left r im′ ≡ stepped m im (rest g m (Draws lit it)) → left r im′ ≡ stepped m im (step g m)
       done-item e′ er = er ∙ ap (stepped m im) (taken e′)

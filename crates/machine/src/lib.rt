@@ -12,12 +12,14 @@ ghost use lib.ListN.{length};
 ghost use Rattle.definition.specs.Image.{imageBytes, left};
 ghost use Rattle.definition.specs.Machine.{inRange, ranged};
 ghost use Rattle.definition.specs.Step.{second, step};
-ghost use Rattle.definition.specs.Calls.{plain, given};
+ghost use Rattle.definition.specs.BuiltIn.{builtIn};
+ghost use Rattle.definition.specs.Characters.{setBytes, chosen};
+ghost use Rattle.definition.specs.Calls.{lending, plain, given};
 ghost use Rattle.definition.specs.declared.Order.the-variants.{Jump};
 ghost use Rattle.definition.specs.declared.Item.the-variants.{LongVector, AbsolutePoint};
 ghost use Rattle.definition.specs.declared.Instruction.the-variants.{Does, Draws};
 ghost use Rattle.outcome.specs.Outcome.{told, stepped};
-ghost use Rattle.machine.specs.Rest.{SetsWithin, rest, passedBy};
+ghost use Rattle.machine.specs.Rest.{Drawable, rest, passedBy};
 ghost use Rattle.machine.specs.Seconds.{Seconds};
 
 // What stands after the word at the counter.
@@ -102,9 +104,9 @@ fn absolute_point(file: &[u16], m: Machine, image: &mut [u8], lit: bool, x: Unit
     }
 }
 
-fn draws(file: &[u16], m: Machine, image: &mut [u8], lit: bool, item: Item) -> Stepped
-    requires { ⌜ (length (now image) ≡ imageBytes) × (ranged m ≡ true) × SetsWithin item ⌝ }
-    ensures { λ r. ⌜ left r (now (image .exit)) ≡ stepped m (now (image .entry)) (rest (given (plain (now (file .entry)))) m (Draws lit item)) ⌝ }
+fn draws(file: &[u16], m: Machine, image: &mut [u8], set: &[u8], lit: bool, item: Item) -> Stepped
+    requires { ⌜ (length (now image) ≡ imageBytes) × (ranged m ≡ true) × (length (chosen (now set) builtIn) ≡ setBytes) × Drawable lit item ⌝ }
+    ensures { λ r. ⌜ left r (now (image .exit)) ≡ stepped m (now (image .entry)) (rest (given (lending (now (file .entry)) (now (set .entry)))) m (Draws lit item)) ⌝ }
 {
     match item {
         Item::ShortVector { x, y } => items::vector_by(m, image, lit, x, y, false),
@@ -113,13 +115,14 @@ fn draws(file: &[u16], m: Machine, image: &mut [u8], lit: bool, item: Item) -> S
         Item::GraphX { x } => items::graph_x(m, image, lit, x),
         Item::GraphY { y } => items::graph_y(m, image, lit, y),
         Item::RelativePoint { x, y } => items::relative_point(m, image, lit, x, y),
+        Item::Characters { first, second } => letters::characters(m, image, set, first, second),
     }
 }
 
-// What refuses it, in order: 21 to 23 for the first word, 24 or 25, 22 or 23 for the second, 26, 27.
-pub fn step(file: &[u16], m: Machine, image: &mut [u8]) -> Stepped
-    requires { ⌜ (length (now image) ≡ imageBytes) × (ranged m ≡ true) ⌝ }
-    ensures { λ r. ⌜ left r (now (image .exit)) ≡ stepped m (now (image .entry)) (step (given (plain (now (file .entry)))) m) ⌝ }
+// What refuses it, in order: 21 to 23 for the first word, 24, 25 or 32, 22 or 23 for the second, 26, 27.
+pub fn step(file: &[u16], m: Machine, image: &mut [u8], set: &[u8]) -> Stepped
+    requires { ⌜ (length (now image) ≡ imageBytes) × (ranged m ≡ true) × (length (chosen (now set) builtIn) ≡ setBytes) ⌝ }
+    ensures { λ r. ⌜ left r (now (image .exit)) ≡ stepped m (now (image .entry)) (step (given (lending (now (file .entry)) (now (set .entry)))) m) ⌝ }
 {
     let got = file::fetch(file, m.counter);
     let Fetched::Word(word) = got else {
@@ -131,6 +134,6 @@ pub fn step(file: &[u16], m: Machine, image: &mut [u8]) -> Stepped
     }
     match words::decode(m.mode, word) {
         Instruction::Does(order) => does(file, m, order),
-        Instruction::Draws { lit, item } => draws(file, m, image, lit, item),
+        Instruction::Draws { lit, item } => draws(file, m, image, set, lit, item),
     }
 }

@@ -10,12 +10,11 @@ use mir.Facts.{toZ-ofZ}
 use Rattle.whole.specs.Bits.{rd}
 use borrow.Author.Tests.{lt-ltb, le-ltb}
 use Rattle.definition.specs.Choice.{pick}
-use Rattle.definition.specs.Words.{setsMode}
-use Rattle.definition.specs.Machine.{withMode, isMode, ranged}
+use Rattle.definition.specs.Machine.{withMode, ranged}
 use Rattle.definition.specs.declared.Machine.{Machine}
 use Rattle.definition.specs.declared.Ran.{Ran}
 use Rattle.definition.proofs.Exactly.{apart}
-use Rattle.numbers.specs.Numbers.{number, numbersOf, machineOf, flags, allRanged, taken, given-back, ranOf}
+use Rattle.numbers.specs.Numbers.{number, numbersOf, machineOf, flags, allRanged, spoilt, taken, given-back, ranOf}
 use Rattle.numbers.specs.declared.HostMachine.{HostMachine}
 
 -- ---- the flags: a law for each that is out of range, and one for all in range
@@ -69,15 +68,15 @@ module _ (m : HostMachine) where
   unfolding taken
   taken-whole e en = rw e en
 
-  pub taken-out : flags m ≡ false → {n : Machine} → n ≡ machineOf m → withMode n 0 (n .value) ≡ taken m
+  pub taken-out : flags m ≡ false → {n : Machine} → n ≡ machineOf m → withMode n (n .mode) spoilt ≡ taken m
   unfolding taken
   taken-out e en = rw (e, en)
 
   pub ranged-taken : ranged (taken m) ≡ allRanged m
-  unfolding taken allRanged ranged isMode setsMode
+  unfolding taken allRanged ranged
   ranged-taken = go (flags m)
     where
-      go : (t : Bool) → ranged (pick t (machineOf m) (withMode (machineOf m) 0 (m .value))) ≡ t && ranged (machineOf m)
+      go : (t : Bool) → ranged (pick t (machineOf m) (withMode (machineOf m) (m .mode) spoilt)) ≡ t && ranged (machineOf m)
       go true = refl
       go false = simp and-false
 
@@ -85,7 +84,7 @@ module _ (m : HostMachine) where
   unfolding taken
   status-taken = go (flags m)
     where
-      go : (t : Bool) → pick t (machineOf m) (withMode (machineOf m) 0 (m .value)) .status ≡ m .status
+      go : (t : Bool) → pick t (machineOf m) (withMode (machineOf m) (m .mode) spoilt) .status ≡ m .status
       go true = refl
       go false = refl
 
@@ -111,7 +110,7 @@ module _ (m : HostMachine) where
   unfolding given-back taken
   untouched = go (flags m) refl
     where
-      go : (t : Bool) → flags m ≡ t → pick t (numbersOf (pick t (machineOf m) (withMode (machineOf m) 0 (m .value)))) m ≡ m
+      go : (t : Bool) → flags m ≡ t → pick t (numbersOf (pick t (machineOf m) (withMode (machineOf m) (m .mode) spoilt))) m ≡ m
       go true e = numbers-back e
       go false e = refl
 

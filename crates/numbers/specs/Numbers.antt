@@ -30,9 +30,13 @@ unfoldable pub allRanged : HostMachine → Bool
 allRanged m = flags m && ranged (machineOf m)
 
 -- ---- what the code works with
--- the machine that a call works on: where a flag is out of range its mode is so too
+-- a pixel value that is out of range
+abbrev pub spoilt : ℕ
+spoilt = 255
+
+-- the machine that a call works on: where a flag is out of range its pixel value is so too
 unfoldable pub taken : HostMachine → Machine
-taken m = pick (flags m) (machineOf m) (withMode (machineOf m) 0 (m .value))
+taken m = pick (flags m) (machineOf m) (withMode (machineOf m) (m .mode) spoilt)
 
 -- what a call left of the machine that it worked on, in numbers
 unfoldable pub given-back : HostMachine → Machine → HostMachine
@@ -44,4 +48,4 @@ ranOf m r = record { machine = given-back m (r .machine); steps = r .counts .ste
 
 -- ---- the interface in C: raised when a record or a signature of include/roadparsnip.h changes
 abbrev pub interface : ℕ
-interface = 2
+interface = 3

@@ -40,6 +40,9 @@ pub struct HostRead {
     pub answer: u8,
 }
 
+// No pixel value.
+const SPOILT: u8 = 255;
+
 fn number(flag: bool) -> u8
     ensures { λ r. ⌜ r ≡ number flag ⌝ }
 {
@@ -95,13 +98,13 @@ fn flags(m: HostMachine) -> bool
     true
 }
 
-// The machine that a call works on. Where a flag is out of range its mode is so too: the call answers what comes before 16, or 16.
+// The machine that a call works on. Where a flag is out of range its pixel value is so too: the call answers what comes before 16, or 16.
 pub fn taken(m: HostMachine) -> Machine
     ensures { λ r. ⌜ r ≡ taken m ⌝ }
 {
     let mut n = machine_of(m);
     if !flags(m) {
-        n.mode = 0;
+        n.value = SPOILT;
     }
     n
 }
@@ -132,7 +135,7 @@ pub fn ran_of(m: HostMachine, ran: Ran) -> HostRan
 
 // The number of the interface in C, the same as ROADPARSNIP_INTERFACE in include/roadparsnip.h.
 // Raise both, and `interface` of specs/Numbers.antt, when a record or a signature of that header changes.
-const INTERFACE: u32 = 2;
+const INTERFACE: u32 = 3;
 
 pub fn interface_number() -> u32
     ensures { λ r. ⌜ r ≡ interface ⌝ }

@@ -10,10 +10,11 @@
 //   8 X i, 12 Y i, to plot. Record of 4: the digit that was read, or the number of stores that a plot counts.
 // 3 file: 2 number of words, 16 bits; 4 six addresses, 16 bits each; the words after the head.
 //   Record of 19: 0 answer of the check; where that is 0, from 1 on for each address the number of its refusal and its word, 16 bits.
-// 4 word: 2 the word. Record of 100: an account of 13 in each of the modes 1 to 6 and none; 91 move of a long vector i;
-//   95 coordinate i; 99 refusal as a second word.
+// 4 word: 2 the word. Record of 113: an account of 13 in each of the modes 1 to 6 and none; 91 move of a long vector i;
+//   95 coordinate i; 99 refusal as a second word; 100 the account in mode 0.
 //   Account: 0 refusal, and where it is not 0 nothing else; 1 kind, from 1 on: set mode, jump, no-op, status A, increment,
-//   status C, then the items of the modes 1 to 6; 5 X i, 9 Y i, where there is none the number 0. Of an item: 2 lit.
+//   status C, then the items of the modes 1 to 6 and 0; 5 X i, 9 Y i, where there is none the number 0, and in mode 0 the two codes.
+//   Of an item: 2 lit.
 //   Of an order: 2 whether it sets something (status C: in channel 0), 3 to what, if so; 4 the mode, or whether it stops.
 // 5 vector: 2 value; 4, 6 X and Y of the first pixel, 8, 10 of the last, with 2,048 added. Record of 4: the number of stores.
 // 6 look: 1 whether to fill; 2 with which byte. Record of 4: the digest of the image before.
@@ -167,7 +168,7 @@ fn write_file(head: &[u8], words: &[u16], n: usize) -> bool {
 // ---- words
 fn word_case(head: &[u8]) -> bool {
     let word = records::word_at(head, 2);
-    let mut record = [0u8; 100];
+    let mut record = [0u8; 113];
     accounts::put_account(&mut record, 0, 1, word);
     accounts::put_account(&mut record, 13, 2, word);
     accounts::put_account(&mut record, 26, 3, word);
@@ -175,6 +176,7 @@ fn word_case(head: &[u8]) -> bool {
     accounts::put_account(&mut record, 52, 5, word);
     accounts::put_account(&mut record, 65, 6, word);
     accounts::put_account(&mut record, 78, 255, word);
+    accounts::put_account(&mut record, 100, 0, word);
     records::put_signed(&mut record, 91, words::long(word).0);
     records::put_signed(&mut record, 95, words::coordinate(word).0);
     records::put(&mut record, 99, words::second_refusal(word));

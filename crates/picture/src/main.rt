@@ -1,8 +1,10 @@
-// picture BUDGET [FILE OUT]..: draws each file by a run with that budget, and writes its screen to the new file OUT as a binary PGM. A FILE of `-` is
+// picture BUDGET SET [FILE OUT]..: draws each file by a run with that budget, and writes its screen to the new file OUT as a binary PGM. A FILE of `-` is
 // standard input. Of each pair it writes a line: the answer; `unread`, and then it makes no OUT; or `unwritten`, where OUT could not be made, written
-// whole or closed.
+// whole or closed. SET is a file whose bytes are lent as the set of characters, or empty: then none is lent. Where it cannot be read the one line is `no set`.
+use input::Taken;
 use libc::STDOUT_FILENO;
 use screen::PICTURE;
+ghost use Rattle.io.specs.Counts.{Counts};
 
 // ---- the budget
 // The least that a run refuses, by 17. A larger budget, and what is no number, count as this one.
@@ -59,7 +61,7 @@ fn save(argument: usize, picture: &[u8; PICTURE]) -> bool {
 }
 
 // Answers whether the line was written.
-fn draw(file: usize, out: usize, budget: u32) -> bool {
+fn draw(file: usize, out: usize, budget: u32, set: &[u8]) -> bool {
     let mut bytes = [0u8; input::ROOM];
     let mut image = [0u8; 65536];
     let mut picture = [0u8; PICTURE];
@@ -68,7 +70,7 @@ fn draw(file: usize, out: usize, budget: u32) -> bool {
         return say(b"unread\n");
     }
     let length = taken.length;
-    let answer = screen::draw(&bytes[..length], &mut image, budget);
+    let answer = screen::draw(&bytes[..length], &mut image, budget, set);
     screen::picture_of(&image, &mut picture);
     if !save(out, &picture) {
         return say(b"unwritten\n");
@@ -76,16 +78,41 @@ fn draw(file: usize, out: usize, budget: u32) -> bool {
     say_answer(answer)
 }
 
-// The first pair is arguments 2 and 3. Stops where a line was not written.
-fn draw_all(count: usize, budget: u32) {
+// The first pair is arguments 3 and 4. Stops where a line was not written.
+fn draw_all(count: usize, budget: u32, set: &[u8]) {
     let mut pair = 1;
-    while pair < count / 2 && draw(2 * pair, 2 * pair + 1, budget) {
+    while pair < count / 2 && draw(2 * pair + 1, 2 * pair + 2, budget, set) {
         pair += 1;
     }
+}
+
+// The set that argument 2 names, or none.
+fn take_set(set: &mut [u8; input::ROOM]) -> Taken
+    ensures { λ r. ⌜ Counts (r .length) (now (set .exit)) ⌝ }
+{
+    let mut name = io::buffer();
+    if os::arg(2, &mut name) == 0 {
+        return Taken {
+            length: 0,
+            is_read: true,
+        };
+    }
+    input::read(2, set)
 }
 
 fn main() {
     let mut figures = io::buffer();
     let length = os::arg(1, &mut figures);
-    draw_all(os::arg_count(), budget_of(&figures[..length]));
+    let mut set = [0u8; input::ROOM];
+    let taken = take_set(&mut set);
+    if !taken.is_read {
+        say(b"no set\n");
+        return;
+    }
+    let bytes = taken.length;
+    draw_all(
+        os::arg_count(),
+        budget_of(&figures[..length]),
+        &set[..bytes],
+    );
 }

@@ -10,12 +10,12 @@
 //   24 X i, 28 Y i: the pixel to read
 //   32 length of the image, 32 bits, at most 65,537; 36 its seed, 32 bits
 //   40 number of words, 16 bits, at most 32,768
+//   48 length of the lent set of characters, 16 bits, at most 1,024; 52 its seed, 32 bits
 // The rest is 0, with a place for what is not built:
 //   42 ones only, 43 shape, 44 saved counter, 32 bits
-//   48 length of a lent character set, 16 bits; 52 its seed, 32 bits
 //   50 pressed; 56 X i, 60 Y i of a crosshair
 // For each byte of the image a number, 0 at first, becomes 69,069 times itself and the seed, in 32 bits; the byte is its highest eight
-// bits. With the seed 0 every byte is 0.
+// bits. With the seed 0 every byte is 0. The bytes of the set come from its seed in the same way.
 //
 // A line: answer, steps, words, stores, counter, X, Y, mode, value, write, latch, increment, status, the digit that was read, and the
 // digest of the image after the call. A call that gives no answer, no count or no digit has 0 there, one that gives no machine has
@@ -70,14 +70,14 @@ fn uncounted(machine: HostMachine, answer: u8) -> HostRan {
     }
 }
 
-fn called(head: &[u8], file: &[u16], image: &mut [u8], digit: &mut u8) -> HostRan {
+fn called(head: &[u8], file: &[u16], image: &mut [u8], set: &[u8], digit: &mut u8) -> HostRan {
     let m = machine_of(head);
     match records::byte_at(head, 0) {
         1 => uncounted(m, host::roadparsnip_check(file)),
         2 => uncounted(host::roadparsnip_fresh(), 0),
         3 => started(m, records::word_at(head, 10)),
-        4 => host::roadparsnip_step(file, m, image),
-        5 => host::roadparsnip_run(file, m, image, records::long_at(head, 20)),
+        4 => host::roadparsnip_step(file, m, image, set),
+        5 => host::roadparsnip_run(file, m, image, records::long_at(head, 20), set),
         6 => uncounted(m, host::roadparsnip_clear(image)),
         _ => {
             let x = records::signed_at(head, 24);
@@ -133,11 +133,21 @@ fn write_line(ran: HostRan, digit: u8, digest: u32) -> bool {
 }
 
 // ---- one case, and all; false at the end of the input, and where a case is cut or too large
-fn replayed(head: &[u8], file: &[u16], image: &mut [u8]) -> bool {
+fn replayed(head: &[u8], file: &[u16], image: &mut [u8], set: &mut [u8]) -> bool {
     let mut digit = 0u8;
     fill(image, records::long_at(head, 36));
-    let ran = called(head, file, image, &mut digit);
+    fill(set, records::long_at(head, 52));
+    let ran = called(head, file, image, set, &mut digit);
     write_line(ran, digit, records::digest(image))
+}
+
+fn with_set(head: &[u8], file: &[u16], image: &mut [u8]) -> bool {
+    let mut set = [0u8; 1024];
+    let size = records::word_at(head, 48) as usize;
+    if set.len() < size {
+        return false;
+    }
+    replayed(head, file, image, &mut set[0..size])
 }
 
 fn with_file(head: &[u8], image: &mut [u8], body: &mut [u8], words: &mut [u16]) -> bool {
@@ -156,7 +166,7 @@ fn with_file(head: &[u8], image: &mut [u8], body: &mut [u8], words: &mut [u16]) 
         return false;
     }
     words_of(body, &mut words[0..n]);
-    replayed(head, &words[0..n], &mut image[0..size])
+    with_set(head, &words[0..n], &mut image[0..size])
 }
 
 fn one_case(image: &mut [u8; 65537], body: &mut [u8; 65536], words: &mut [u16; 32768]) -> bool {

@@ -44,7 +44,7 @@ module _ (g : Given) (m : Machine) (im : List ℕ) {r : Stepped} {im′ : List �
       let k = ap (λ (l : Left Stepped). l .result .counts) e in
       subst Few (sym k) (
       step-keeps g (λ t. Few (counted t)) m
-      (λ z. let w = either-false .0 (free g m 27 z) in record { steps = omega arith; words = two-at-most (hasSecond (instruction g m)); stores = stored-few m (instruction g m) (wordIn (second g m)) h (w .0) (w .1) })
+      (λ z. let w = either-false .0 (free g m 27 z) in record { steps = omega arith; words = two-at-most (hasSecond (instruction g m)); stores = stored-few g m (instruction g m) (wordIn (second g m)) h (w .0) (w .1) })
       (record { steps = omega arith; words = omega arith; stores = omega arith })
       )
 

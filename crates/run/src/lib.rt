@@ -9,11 +9,13 @@ ghost use lib.ListN.{length};
 ghost use Rattle.definition.specs.Image.{imageBytes, left};
 ghost use Rattle.definition.specs.Machine.{ranged};
 ghost use Rattle.definition.specs.Run.{begun, run};
-ghost use Rattle.definition.specs.Calls.{plain, given, answered};
+ghost use Rattle.definition.specs.BuiltIn.{builtIn};
+ghost use Rattle.definition.specs.Characters.{setBytes, chosen};
+ghost use Rattle.definition.specs.Calls.{lending, given, answered};
 
-pub fn run(file: &[u16], m: Machine, image: &mut [u8], budget: u32) -> Ran
-    requires { ⌜ (length (now image) ≡ imageBytes) × (ranged m ≡ true) × (budget ≤ 1000000) ⌝ }
-    ensures { λ r. ⌜ left r (now (image .exit)) ≡ answered (run (given (plain (now (file .entry)))) budget (begun m (now (image .entry)))) ⌝ }
+pub fn run(file: &[u16], m: Machine, image: &mut [u8], budget: u32, set: &[u8]) -> Ran
+    requires { ⌜ (length (now image) ≡ imageBytes) × (ranged m ≡ true) × (budget ≤ 1000000) × (length (chosen (now set) builtIn) ≡ setBytes) ⌝ }
+    ensures { λ r. ⌜ left r (now (image .exit)) ≡ answered (run (given (lending (now (file .entry)) (now (set .entry)))) budget (begun m (now (image .entry)))) ⌝ }
 {
     let mut here = m;
     let mut steps = 0;
@@ -24,7 +26,7 @@ pub fn run(file: &[u16], m: Machine, image: &mut [u8], budget: u32) -> Ran
         if here.status != 0 {
             break;
         }
-        let taken = machine::step(file, here, image);
+        let taken = machine::step(file, here, image, set);
         here = taken.machine;
         steps += taken.counts.steps;
         words += taken.counts.words;

@@ -5,15 +5,15 @@ use lib.Dec.{eqb}
 use Rattle.definition.specs.Choice.{pick, firstOf}
 use Rattle.definition.specs.Image.{square, blank, digitAt, Left, left}
 use Rattle.definition.specs.Machine.{fresh}
-use Rattle.definition.specs.Calls.{plain, runCall}
+use Rattle.definition.specs.Calls.{lending, runCall}
 use Rattle.definition.specs.Plot.{wordsIn, inputDoors}
 
 -- ---- the screen
--- 19 first, with nothing drawn; else what the run of a fresh machine on a cleared image, with that budget, answers and leaves
-unfoldable pub drawing : List ℕ → ℕ → Left ℕ
-drawing bytes budget =
+-- 19 first, with nothing drawn; else what the run of a fresh machine on a cleared image, with that budget and that lent set, answers and leaves
+unfoldable pub drawing : List ℕ → ℕ → List ℕ → Left ℕ
+drawing bytes budget set =
     let n = firstOf (inputDoors bytes) in
-    let ran = runCall (plain (wordsIn bytes)) fresh blank budget in
+    let ran = runCall (lending (wordsIn bytes) set) fresh blank budget in
     pick (eqb n 0) (left (ran .result .answer) (ran .image)) (left n blank)
 
 -- ---- the picture

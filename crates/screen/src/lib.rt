@@ -13,9 +13,9 @@ const HEADER: usize = 13;
 
 const ROW: usize = 512;
 
-// Clears the image, lets a fresh machine draw the file into it with that budget, and answers 19 or as the run does.
-pub fn draw(bytes: &[u8], image: &mut [u8; 65536], budget: u32) -> u8
-    ensures { λ r. ⌜ left r (now (image .exit)) ≡ drawing (now (bytes .entry)) budget ⌝ }
+// Clears the image, lets a fresh machine draw the file into it with that budget and that set of characters, and answers 19 or as the run does.
+pub fn draw(bytes: &[u8], image: &mut [u8; 65536], budget: u32, set: &[u8]) -> u8
+    ensures { λ r. ⌜ left r (now (image .exit)) ≡ drawing (now (bytes .entry)) budget (now (set .entry)) ⌝ }
 {
     image::clear(image);
     if bytes.len() % 2 != 0 {
@@ -26,7 +26,7 @@ pub fn draw(bytes: &[u8], image: &mut [u8; 65536], budget: u32) -> u8
     }
     let mut words = [0u16; 32768];
     let n = line::words_of(bytes, &mut words);
-    let ran = display::run(&words[..n], display::fresh(), image, budget);
+    let ran = display::run(&words[..n], display::fresh(), image, budget, set);
     ran.answer
 }
 

@@ -10,9 +10,11 @@ use definition::WriteBits;
 ghost use Prim.Native.Nat.{ℕ};
 ghost use mathlib.Core.Path.{_≡_};
 ghost use Rattle.definition.specs.Choice.{firstOf};
-ghost use Rattle.definition.specs.Words.{bits, setsMode, notBuilt, order, item, decode, shortX, shortY, long, coordinate, firstRefusals, secondRefusals};
+ghost use Rattle.definition.specs.Words.{bits, setsMode, notBuilt, order, item, decode, shortX, shortY, long, coordinate, firstCode, secondCode, isCode, firstRefusals, secondRefusals};
 
 pub const NO_MODE: u8 = 255;
+
+const CHARACTERS: u8 = 0;
 
 pub fn decode(mode: u8, word: u16) -> Instruction
     ensures { λ r. ⌜ r ≡ decode mode word ⌝ }
@@ -20,9 +22,25 @@ pub fn decode(mode: u8, word: u16) -> Instruction
     if word / 32768 % 2 == 1 {
         return Instruction::Does(order(word));
     }
+    if mode == CHARACTERS {
+        return Instruction::Draws {
+            lit: true,
+            item: characters(word),
+        };
+    }
     Instruction::Draws {
         lit: word / 16384 % 2 == 1,
         item: item(mode, word),
+    }
+}
+
+// Every character is lit: bit 14 belongs to the second code.
+fn characters(word: u16) -> Item
+    ensures { λ r. ⌜ r ≡ item 0 word ⌝ }
+{
+    Item::Characters {
+        first: first_code(word) as u8,
+        second: second_code(word) as u8,
     }
 }
 
@@ -64,11 +82,12 @@ fn order(word: u16) -> Order
 fn sets_mode(code: u16) -> bool
     ensures { λ r. ⌜ r ≡ setsMode code ⌝ }
 {
-    1 <= code && code <= 6
+    code <= 6
 }
 
-// A number that is no mode reads as mode 6 does.
+// A number that is no mode reads as mode 6 does. Mode 0 is `characters`.
 fn item(mode: u8, word: u16) -> Item
+    requires { ⌜ (mode ≡ 0 → ⊥) ⌝ }
     ensures { λ r. ⌜ r ≡ item mode word ⌝ }
 {
     match mode {
@@ -119,6 +138,19 @@ pub fn coordinate(word: u16) -> Units
     units::move_of(false, word % 1024)
 }
 
+// The two characters of a word, the low one first.
+fn first_code(word: u16) -> u16
+    ensures { λ r. ⌜ r ≡ firstCode word ⌝ }
+{
+    word % 128
+}
+
+fn second_code(word: u16) -> u16
+    ensures { λ r. ⌜ r ≡ secondCode word ⌝ }
+{
+    word / 256 % 128
+}
+
 // What a first word is refused with, by its bit 15; 0 where it is not refused.
 pub fn first_refusal(mode: u8, word: u16) -> u8
     ensures { λ r. ⌜ r ≡ firstOf (firstRefusals mode word) ⌝ }
@@ -126,7 +158,7 @@ pub fn first_refusal(mode: u8, word: u16) -> u8
     if word / 32768 % 2 == 1 {
         return order_refusal(word);
     }
-    item_refusal(mode)
+    item_refusal(mode, word)
 }
 
 // 24 or 0, for a word with bit 15 set, in every mode.
@@ -140,20 +172,37 @@ fn order_refusal(word: u16) -> u8
     0
 }
 
-// 25 or 0, for every word with bit 15 clear.
-fn item_refusal(mode: u8) -> u8
-    ensures { λ r. ⌜ ((word : ℕ) → (bits 15 15 word ≡ 1 → ⊥) → r ≡ firstOf (firstRefusals mode word)) ⌝ }
+// 25, 32 or 0, for a word with bit 15 clear.
+fn item_refusal(mode: u8, word: u16) -> u8
+    requires { ⌜ (bits 15 15 word ≡ 1 → ⊥) ⌝ }
+    ensures { λ r. ⌜ r ≡ firstOf (firstRefusals mode word) ⌝ }
 {
     if mode == NO_MODE {
         return 25;
     }
+    if mode != CHARACTERS {
+        return 0;
+    }
+    if !is_code(first_code(word)) {
+        return 32;
+    }
+    if !is_code(second_code(word)) {
+        return 32;
+    }
     0
+}
+
+// Whether a set has a cell for it.
+fn is_code(code: u16) -> bool
+    ensures { λ r. ⌜ r ≡ isCode code ⌝ }
+{
+    32 <= code && code <= 126
 }
 
 fn not_built(code: u16) -> bool
     ensures { λ r. ⌜ r ≡ notBuilt code ⌝ }
 {
-    code == 0 || 7 <= code && code <= 11
+    7 <= code && code <= 11
 }
 
 // 26 or 0, for the second word of a long vector or an absolute point.

@@ -2,11 +2,16 @@
 //! Chance decides what may be anything, as the image, the rest of the machine, and bits that are
 //! not read.
 
-use super::{bordered, everywhere, one_segment, ranged, usual, Call, Case, LIT, SEGMENT};
+use super::{
+    bordered, everywhere, grown, one_segment, ranged, usual, Call, Case, LIT, MOST_SET_BYTES,
+    SEGMENT,
+};
 use crate::cases::{control, Random, DATA, JUMP};
-use crate::{Machine, Unit, NO_MODE};
+use crate::{Machine, Unit, NO_MODE, SET_BYTES};
 
 const BIT_15: u16 = 1 << 15;
+/// Not read between the two codes of a character word.
+const BIT_7: u16 = 1 << 7;
 const MINUS: u16 = 1 << 13;
 const STOP: u16 = BIT_15 | 14 << 11 | 1 << 10;
 const NO_OP: u16 = BIT_15 | 13 << 11;
@@ -19,6 +24,10 @@ pub(super) fn listed(random: &mut Random) -> Vec<Case> {
     list.orders();
     list.items();
     list.vectors();
+    list.codes();
+    list.cells();
+    list.text();
+    list.sets();
     list.ends_of_the_range();
     list.fields();
     list.starts();
@@ -61,6 +70,34 @@ impl List<'_> {
             change(&mut case.machine);
             case.file = one_segment(words);
         });
+    }
+
+    /// One step of a machine in mode 0, with write on.
+    fn characters(&mut self, word: u16, x: i64, y: i64, change: impl FnOnce(&mut Case)) {
+        self.add(Call::Step, |case| {
+            case.machine.mode = 0;
+            case.machine.write = 1;
+            case.machine.x = Unit(x);
+            case.machine.y = Unit(y);
+            case.file = one_segment(vec![word, STOP]);
+            change(case);
+        });
+    }
+
+    /// A word of two good codes.
+    fn good(&mut self) -> u16 {
+        let (first, second) = (self.random.between(33, 126), self.random.between(33, 126));
+        pair(first, second) | self.bits(BIT_7)
+    }
+
+    /// A seed of a set in which the space has ink.
+    fn inked(&mut self) -> u32 {
+        loop {
+            let seed = self.random.next() as u32 | 1;
+            if grown(8, seed).iter().any(|&row| row != 0) {
+                return seed;
+            }
+        }
     }
 
     fn run(&mut self, file: Vec<u16>, change: impl FnOnce(&mut Machine)) {
@@ -107,7 +144,7 @@ impl List<'_> {
         }
     }
 
-    /// Every mode, lit or not, with write on or off, in the field, about its edges and beyond it.
+    /// Every mode but that of characters, lit or not, with write on or off, in the field, about its edges and beyond it.
     fn items(&mut self) {
         for mode in 1..=6 {
             for lit in [0, LIT] {
@@ -191,6 +228,144 @@ impl List<'_> {
         self.vector((0, 1_024), (500, 1_024));
     }
 
+    /// Good codes and bad ones in either half, with room for the advance and without.
+    fn codes(&mut self) {
+        for first in [0, 31, 32, 57, 126, 127] {
+            for second in [0, 31, 32, 57, 126, 127] {
+                let word = pair(first, second) | self.bits(BIT_7);
+                let x = i64::from(self.random.below(900));
+                self.characters(word, x, 500, |_| ());
+            }
+        }
+        // Nothing but bit 7 differs.
+        let (word, seed) = (self.good() & !BIT_7, self.inked());
+        for set_length in [0, SET_BYTES] {
+            for bit in [0, BIT_7] {
+                self.characters(word | bit, 77, 99, |case| {
+                    case.image_seed = seed;
+                    case.set_length = set_length;
+                    case.set_seed = seed;
+                });
+            }
+        }
+        // To the right end, past it with room for one character, and with room for none.
+        for x in [-4_096, 4_062, 4_063, 4_064, 4_079, 4_080, 4_095] {
+            let word = self.good();
+            self.characters(word, x, 500, |_| ());
+        }
+        // A bad code speaks before the range.
+        for x in [4_064, 4_095] {
+            for word in [pair(31, 50), pair(50, 127), pair(0, 0)] {
+                self.characters(word, x, 500, |_| ());
+            }
+        }
+        // The mode, with and without a value, and what is drawn with it.
+        for order in [
+            control(0),
+            control(0) | 1 << 10,
+            control(0) | 1 << 10 | 2 << 8,
+        ] {
+            let words = vec![order | self.bits(0x00FF), self.good(), self.good(), STOP];
+            self.run(one_segment(words), |machine| {
+                machine.x = Unit(300);
+                machine.y = Unit(301);
+                machine.write = 1;
+            });
+        }
+        // From another mode to characters and back.
+        for mode in 1..=6 {
+            let item = LIT | self.bits(0x03FF);
+            let words = [
+                vec![control(0), self.good(), control(mode), item, item & !LIT],
+                vec![control(0), self.good(), STOP],
+            ];
+            self.run(one_segment(words.concat()), |machine| {
+                machine.x = Unit(500);
+                machine.y = Unit(500);
+                machine.write = 1;
+            });
+        }
+        // Over and over in one place.
+        let words = vec![
+            control(3),
+            500,
+            77,
+            control(0),
+            self.good(),
+            control(JUMP),
+            0,
+        ];
+        self.run(one_segment(words), |machine| machine.write = 1);
+    }
+
+    /// Cells in the field, at each edge and corner of it, and wholly beyond.
+    fn cells(&mut self) {
+        let mut places = vec![(0, 0), (1, 1), (333, 444), (992, 1_008), (993, 1_009)];
+        // Left and right, of either character, then bottom and top.
+        for x in [-1, -2, -8, -14, -15, -16, -17, -24, -30, -32, -33] {
+            places.push((x, 600));
+        }
+        for x in [994, 1_000, 1_006, 1_008, 1_010, 1_016, 1_022, 1_023, 1_024] {
+            places.push((x, 600));
+        }
+        for y in [
+            -1, -2, -8, -14, -15, -16, -17, 1_010, 1_016, 1_022, 1_023, 1_024,
+        ] {
+            places.push((600, y));
+        }
+        places.extend([(-8, -8), (-8, 1_016), (1_016, -8), (1_016, 1_016)]);
+        places.extend([(-24, -6), (-24, 1_014), (1_000, -6), (1_000, 1_014)]);
+        places.extend([(-200, -200), (2_000, -3_000), (3_000, 600), (-4_096, 4_095)]);
+        for (x, y) in places {
+            for set_length in [0, SET_BYTES] {
+                let (word, set_seed) = (self.good(), self.inked());
+                self.characters(word, x, y, |case| {
+                    case.set_length = set_length;
+                    case.set_seed = set_seed;
+                });
+            }
+        }
+        for (x, y) in [(333, 444), (-8, -8), (2_000, 600)] {
+            let word = self.good();
+            self.characters(word, x, y, |case| case.machine.write = 0);
+        }
+        // Two spaces, blank and with ink, and a set of blanks.
+        for set_length in [0, SET_BYTES] {
+            let set_seed = self.inked();
+            self.characters(pair(32, 32), 100, 100, |case| {
+                case.set_length = set_length;
+                case.set_seed = set_seed;
+            });
+        }
+        let word = self.good();
+        self.characters(word, 100, 100, |case| {
+            case.set_length = SET_BYTES;
+            case.set_seed = 0;
+        });
+    }
+
+    /// Every code in either half, in lines of 16 words, as wide as the field.
+    fn text(&mut self) {
+        let codes: Vec<u16> = (32..=126).collect();
+        for set_length in [0, SET_BYTES] {
+            for line in codes.chunks(16) {
+                let mut words = vec![control(3), 0, self.random.below(1_009), control(0)];
+                for &code in line {
+                    let other = 32 + (code - 32 + 47) % 95;
+                    words.push(pair(code, other) | self.bits(BIT_7));
+                }
+                words.push(STOP);
+                let set_seed = self.inked();
+                self.add(Call::Run, |case| {
+                    case.machine.write = 1;
+                    case.set_length = set_length;
+                    case.set_seed = set_seed;
+                    case.file = one_segment(words);
+                });
+            }
+        }
+    }
+
     /// Moves to the highest and the lowest unit of either axis, and one past it.
     fn ends_of_the_range(&mut self) {
         for (end, way) in [(-4_096, -1), (-4_097, -1), (4_095, 1), (4_096, 1)] {
@@ -251,13 +426,13 @@ impl List<'_> {
         for increment in [0, 63, 64, 255] {
             self.add_machine(|machine| machine.increment = increment);
         }
-        for status in [0, 1, 2, 3, 20, 21, 27, 28, 255] {
+        for status in [0, 1, 2, 3, 20, 21, 27, 28, 31, 32, 33, 255] {
             self.add_machine(|machine| machine.status = status);
         }
     }
 
     fn starts(&mut self) {
-        for status in [0, 1, 2, 21, 22, 23, 24, 25, 26, 27] {
+        for status in [0, 1, 2, 21, 22, 23, 24, 25, 26, 27, 32] {
             for address in [0, 1, 2, 8_191, 65_534, 65_535] {
                 let counter = self.random.word();
                 self.add(Call::Start, |case| {
@@ -310,6 +485,34 @@ impl List<'_> {
         }
     }
 
+    /// Sets of each length, with a step and a run that draw from them; other calls take none.
+    fn sets(&mut self) {
+        for length in [0, 1, 8, 759, SET_BYTES, 761, MOST_SET_BYTES] {
+            for call in [Call::Step, Call::Run] {
+                let (word, seed) = (self.good(), self.inked());
+                self.add(call, |case| {
+                    case.machine.mode = 0;
+                    case.machine.write = 1;
+                    case.machine.x = Unit(400);
+                    case.machine.y = Unit(200);
+                    case.set_length = length;
+                    case.set_seed = seed;
+                    case.file = one_segment(vec![word, STOP]);
+                });
+                // Nor is it taken where no character is drawn, or nothing is done at all.
+                self.add(call, |case| {
+                    case.set_length = length;
+                    case.budget = 0;
+                });
+            }
+        }
+        for call in [Call::Check, Call::Start, Call::Clear, Call::ReadPixel] {
+            for length in [1, 759] {
+                self.add(call, |case| case.set_length = length);
+            }
+        }
+    }
+
     fn headers(&mut self) {
         for file in files() {
             for call in [Call::Check, Call::Step, Call::Run] {
@@ -322,20 +525,26 @@ impl List<'_> {
     fn two_doors(&mut self) {
         let sound = vec![1, 1, 4, 1, STOP];
         let doors = [
-            (65_535, vec![1], 1, 1, 0),
-            (65_536, vec![2], 1, 1, 0),
-            (65_536, vec![2, 0, 4, 0], 1, 1, 0),
-            (65_536, vec![1, 9, 2], 1, 1, 0),
-            (65_536, vec![1, 2, 5, 1], 1, 1, 0),
-            (65_536, vec![1, 1, 3, 0], 7, 1, 0),
-            (65_536, sound.clone(), 7, 1_000_001, 0),
-            (65_536, sound.clone(), 1, 1_000_001, 2),
-            (65_536, sound, 7, 1_000_001, 2),
-            (65_536, vec![2, 1, 4, 0], 7, 1_000_001, 2),
-            (65_537, vec![2], 0, u32::MAX, 28),
-            (0, vec![1, 1, 3, 0], 0, u32::MAX, 27),
+            (65_535, vec![1], 1, 1, 0, 0),
+            (65_536, vec![2], 1, 1, 0, 760),
+            (65_536, vec![2, 0, 4, 0], 1, 1, 0, 0),
+            (65_536, vec![1, 9, 2], 1, 1, 0, 760),
+            (65_536, vec![1, 2, 5, 1], 1, 1, 0, 0),
+            (65_536, vec![1, 1, 3, 0], 7, 1, 0, 760),
+            (65_536, sound.clone(), 7, 1_000_001, 0, 0),
+            (65_536, sound.clone(), 7, 1, 0, 759),
+            (65_536, sound.clone(), 7, 1, 2, 0),
+            (65_536, sound.clone(), 1, 1_000_001, 2, 760),
+            (65_536, sound.clone(), 1, 1_000_001, 0, 761),
+            (65_536, sound.clone(), 1, 1, 1, 1),
+            (65_536, sound.clone(), 0, 0, 32, 1_024),
+            (65_536, sound.clone(), 0, 1_000_001, 32, 8),
+            (65_536, sound, 7, 1_000_001, 2, 8),
+            (65_536, vec![2, 1, 4, 0], 7, 1_000_001, 2, 759),
+            (65_537, vec![2], 8, u32::MAX, 28, 1),
+            (0, vec![1, 1, 3, 0], 8, u32::MAX, 27, 761),
         ];
-        for (image_length, file, mode, budget, status) in doors {
+        for (image_length, file, mode, budget, status, set_length) in doors {
             for call in [Call::Run, Call::Step] {
                 self.add(call, |case| {
                     case.machine.mode = mode;
@@ -343,6 +552,7 @@ impl List<'_> {
                     case.image_length = image_length;
                     case.file = file.clone();
                     case.budget = budget;
+                    case.set_length = set_length;
                 });
             }
         }
@@ -380,6 +590,7 @@ impl List<'_> {
         let item = LIT | self.bits(0x03FF);
         let words = [
             (1, NO_OP, vec![STOP]),
+            (0, pair(49, 50), vec![pair(51, 52), STOP]),
             (5, item, vec![item, STOP]),
             (2, item, vec![LIT | MINUS | 99, STOP]),
             (3, item, vec![LIT | 99, STOP]),
@@ -470,8 +681,12 @@ impl List<'_> {
             vec![control(JUMP), 7],
             vec![control(JUMP), 8_192],
             vec![NO_OP],
-            vec![control(0)],
+            vec![control(7)],
             vec![control(11) | 0x07FF],
+            vec![control(0), pair(49, 31)],
+            vec![control(0), pair(127, 49)],
+            vec![control(0), pair(49, 50), pair(51, 52), pair(0, 0)],
+            [vec![control(0)], vec![pair(49, 50); 110]].concat(),
             vec![control(2), LIT | 5],
             vec![control(2), LIT | 5, BIT_15],
             vec![control(3), LIT | 5, 0xFFFF],
@@ -526,6 +741,11 @@ fn files() -> Vec<Vec<u16>> {
         full,
         over,
     ]
+}
+
+/// The word of two characters.
+fn pair(first: u16, second: u16) -> u16 {
+    second << 8 | first
 }
 
 /// The words of a move in modes 1 and 6, or in mode 2, unlit.

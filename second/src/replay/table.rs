@@ -4,7 +4,9 @@ use std::collections::BTreeMap;
 use std::fmt;
 
 use super::{Call, Case, Told, LIT, SEGMENT};
-use crate::{start, step, Machine, Outcome, Unit, BUDGET_LIMIT, IMAGE_BYTES, NO_MODE};
+use crate::{
+    start, step, Machine, Outcome, Unit, BUDGET_LIMIT, BUILT_IN, IMAGE_BYTES, NO_MODE, SET_BYTES,
+};
 
 /// The steps of a run that are looked at.
 const STEPS: u32 = 300;
@@ -13,7 +15,7 @@ const LOWEST: i64 = -4_096;
 const HIGHEST: i64 = 4_095;
 
 /// What is counted: the rows of the table, and in each what must occur.
-const ROWS: [(&str, &[&str]); 47] = [
+const ROWS: [(&str, &[&str]); 61] = [
     (
         "call",
         &[
@@ -29,15 +31,15 @@ const ROWS: [(&str, &[&str]); 47] = [
     (
         "answer of run",
         &[
-            "0", "1", "2", "11", "12", "13", "14", "15", "16", "17", "21", "22", "23", "24", "25",
-            "26", "27", "28",
+            "0", "1", "2", "11", "12", "13", "14", "15", "16", "17", "18", "21", "22", "23", "24",
+            "25", "26", "27", "28", "32",
         ],
     ),
     (
         "answer of step",
         &[
-            "0", "1", "2", "11", "12", "13", "14", "15", "16", "21", "22", "23", "24", "25", "26",
-            "27", "28",
+            "0", "1", "2", "11", "12", "13", "14", "15", "16", "18", "21", "22", "23", "24", "25",
+            "26", "27", "28", "32",
         ],
     ),
     ("answer of check", &["0", "12", "13", "14", "15"]),
@@ -55,19 +57,23 @@ const ROWS: [(&str, &[&str]); 47] = [
             "12 (header) and 15",
             "15 and 16",
             "16 and 17",
+            "16 and 18",
+            "16 and 28",
+            "17 and 18",
             "17 and 28",
+            "18 and 28",
             "11 and 31",
         ],
     ),
     (
         "order, bit 10 clear",
-        &["1", "2", "3", "4", "5", "6", "12", "13", "14", "15"],
+        &["0", "1", "2", "3", "4", "5", "6", "12", "13", "14", "15"],
     ),
     (
         "order, bit 10 set",
-        &["1", "2", "3", "4", "5", "6", "12", "13", "14", "15"],
+        &["0", "1", "2", "3", "4", "5", "6", "12", "13", "14", "15"],
     ),
-    ("code not built", &["0", "7", "8", "9", "10", "11"]),
+    ("code not built", &["7", "8", "9", "10", "11"]),
     (
         "status A, bits 10, 9, 8",
         &["000", "001", "010", "011", "100", "101", "110", "111"],
@@ -77,13 +83,91 @@ const ROWS: [(&str, &[&str]); 47] = [
         "status C, bits 9, 8, 4",
         &["000", "001", "010", "011", "100", "101", "110", "111"],
     ),
-    ("item stored", &["1", "2", "3", "4", "5", "6"]),
+    ("item stored", &["0", "1", "2", "3", "4", "5", "6"]),
     (
         "item lit beyond the field (one of mode 3 is in it)",
-        &["1", "2", "4", "5", "6"],
+        &["0", "1", "2", "4", "5", "6"],
     ),
-    ("item lit, write off", &["1", "2", "3", "4", "5", "6"]),
-    ("item unlit", &["1", "2", "3", "4", "5", "6"]),
+    ("item lit, write off", &["0", "1", "2", "3", "4", "5", "6"]),
+    (
+        "item unlit (none of mode 0 is)",
+        &["1", "2", "3", "4", "5", "6"],
+    ),
+    (
+        "halves of a character word",
+        &["both good", "first bad", "second bad", "both bad"],
+    ),
+    ("first code, second good", &["0", "31", "32", "126", "127"]),
+    ("second code, first good", &["0", "31", "32", "126", "127"]),
+    ("bit 7 of a character word", &["clear", "set"]),
+    (
+        "refused characters (32)",
+        &[
+            "a good first half in the field",
+            "the range would be left too",
+        ],
+    ),
+    (
+        "X after two characters",
+        &[
+            "-4,064",
+            "4,094",
+            "4,095",
+            "4,096, refused (27)",
+            "refused (27), room for one",
+            "refused (27), room for none",
+        ],
+    ),
+    (
+        "character stored",
+        &[
+            "built-in set, first",
+            "built-in set, second",
+            "lent set, first",
+            "lent set, second",
+            "lent set, space",
+        ],
+    ),
+    (
+        "digit stored from the built-in set",
+        &["0", "1", "2", "3", "4", "5", "6", "7", "8", "9"],
+    ),
+    (
+        "cell's place, first character",
+        &[
+            "inside",
+            "inside, in the lower left corner",
+            "cut left",
+            "cut right",
+            "cut top",
+            "cut bottom",
+            "cut at two sides",
+            "beyond, left",
+            "beyond, right",
+            "beyond, above",
+            "beyond, below",
+        ],
+    ),
+    (
+        "cell's place, second character",
+        &[
+            "inside",
+            "inside, in the upper right corner",
+            "cut left",
+            "cut right",
+            "cut top",
+            "cut bottom",
+            "cut at two sides",
+            "beyond, left",
+            "beyond, right",
+            "beyond, above",
+            "beyond, below",
+        ],
+    ),
+    (
+        "cell in the field without ink",
+        &["built-in set", "lent set"],
+    ),
     (
         "vector stored, signs of X and Y, longer axis",
         &["++X", "++Y", "+-X", "+-Y", "-+X", "-+Y", "--X", "--Y"],
@@ -110,11 +194,14 @@ const ROWS: [(&str, &[&str]); 47] = [
             "out and out, none stored",
         ],
     ),
-    ("refused by its first word", &["21", "22", "23", "24", "25"]),
+    (
+        "refused by its first word",
+        &["21", "22", "23", "24", "25", "32"],
+    ),
     ("refused by its second word", &["22", "23", "26"]),
     (
         "refused after steps of the run",
-        &["21", "22", "23", "24", "25", "26", "27"],
+        &["21", "22", "23", "24", "25", "26", "27", "32"],
     ),
     (
         "moved to an end",
@@ -159,11 +246,15 @@ const ROWS: [(&str, &[&str]); 47] = [
     ("machine's increment", &["0", "63", "64", "255"]),
     (
         "machine's status",
-        &["0", "1", "2", "3", "20", "21", "27", "28", "255"],
+        &[
+            "0", "1", "2", "3", "20", "21", "27", "28", "31", "32", "33", "255",
+        ],
     ),
     (
         "started from status",
-        &["0", "1", "2", "21", "22", "23", "24", "25", "26", "27"],
+        &[
+            "0", "1", "2", "21", "22", "23", "24", "25", "26", "27", "32",
+        ],
     ),
     ("started at", &["even", "odd"]),
     (
@@ -177,6 +268,18 @@ const ROWS: [(&str, &[&str]); 47] = [
         ],
     ),
     ("image", &["0", "65,535", "65,536", "65,537"]),
+    (
+        "lent set of a run",
+        &["0", "1", "8", "759", "760", "761", "1,024"],
+    ),
+    (
+        "lent set of a step",
+        &["0", "1", "8", "759", "760", "761", "1,024"],
+    ),
+    (
+        "a set that no run takes, given beside",
+        &["check", "start", "clear", "read_pixel"],
+    ),
     ("file of words", &["0", "1", "2"]),
     ("number of segments", &["0", "1", "8", "9"]),
     (
@@ -278,6 +381,10 @@ impl Table {
         };
         self.saw("call", name);
         self.saw(row, told.answer);
+        let beside = !matches!(case.call, Call::Step | Call::Run);
+        if beside && !matches!(case.set_length, 0 | SET_BYTES) {
+            self.saw("a set that no run takes, given beside", name);
+        }
     }
 
     fn image(&mut self, case: &Case) {
@@ -304,12 +411,25 @@ impl Table {
         if case.call == Call::Run {
             self.budget(case, told);
         }
-        if !matches!(told.answer, 11..=17 | 28) {
+        self.lent_set(case, told);
+        if !matches!(told.answer, 11..=18 | 28) {
             self.steps(case);
         }
     }
 
-    /// Each door of a run is looked at by itself.
+    /// The length of a set counts where no door before it is shut.
+    fn lent_set(&mut self, case: &Case, told: &Told) {
+        let row = match case.call {
+            Call::Run => "lent set of a run",
+            _ => "lent set of a step",
+        };
+        if !matches!(told.answer, 11..=17) {
+            self.saw_listed(row, grouped(case.set_length as i64));
+        }
+    }
+
+    /// Each door of a run is looked at by itself; two that are shut make a pair where those between
+    /// them are open.
     fn two_doors(&mut self, case: &Case) {
         let file = &case.file;
         let over = case.call == Call::Run && u64::from(case.budget) > BUDGET_LIMIT;
@@ -322,12 +442,12 @@ impl Table {
             ("15", pairs(file).any(|pair| breaks(file, pair))),
             ("16", start(case.machine, 0).0.number() == 16),
             ("17", over),
+            ("18", !matches!(case.set_length, 0 | SET_BYTES)),
             ("28", case.machine.status != 0),
         ];
+        let shut: Vec<_> = shut.iter().filter(|door| door.1).collect();
         for pair in shut.windows(2) {
-            if pair[0].1 && pair[1].1 {
-                self.saw("two doors shut", format!("{} and {}", pair[0].0, pair[1].0));
-            }
+            self.saw_listed("two doors shut", format!("{} and {}", pair[0].0, pair[1].0));
         }
     }
 
@@ -416,12 +536,12 @@ impl Table {
             Call::Run => case.budget.min(STEPS),
             _ => 1,
         };
-        let mut image = case.image();
+        let (mut image, set) = (case.image(), case.set());
         let mut machine = case.machine;
         let mut fetched = Vec::new();
         for number in 0..most {
-            let outcome = step(&case.file, machine, &mut image);
-            self.one(&case.file, &machine, &outcome, number > 0);
+            let outcome = step(&case.file, machine, &mut image, &set);
+            self.one(case, &machine, &outcome, number > 0);
             if outcome.steps == 1 {
                 let segment = usize::from(machine.counter / 8_192);
                 if !fetched.contains(&segment) {
@@ -454,7 +574,8 @@ impl Table {
     }
 
     /// One step, of which the machine before and the outcome are known.
-    fn one(&mut self, file: &[u16], before: &Machine, outcome: &Outcome, later: bool) {
+    fn one(&mut self, case: &Case, before: &Machine, outcome: &Outcome, later: bool) {
+        let file = &case.file;
         let answer = outcome.answer.number();
         let first = word_at(file, before.counter);
         let second = word_at(file, before.counter.wrapping_add(2));
@@ -485,6 +606,10 @@ impl Table {
         }
         if word >> 15 == 0 && before.mode != NO_MODE {
             self.item(word, second.unwrap_or(0), before, outcome);
+        }
+        if word >> 15 == 0 && before.mode == 0 {
+            self.halves(word, before, outcome);
+            self.cells(case, word, before, outcome);
         }
     }
 
@@ -555,16 +680,100 @@ impl Table {
         if y != before.y.0 {
             self.saw_listed(row, format!("Y {}", grouped(y)));
         }
-        let lit = first & LIT != 0;
+        let lit = first & LIT != 0 || before.mode == 0;
         let row = match (lit, before.write) {
-            (false, _) => "item unlit",
+            (false, _) => "item unlit (none of mode 0 is)",
             (true, 0) => "item lit, write off",
             _ if outcome.stores > 0 => "item stored",
+            // In the field, of blank cells.
+            _ if before.mode == 0 && corners(before).iter().any(meets_field) => return,
             _ => "item lit beyond the field (one of mode 3 is in it)",
         };
         self.saw(row, before.mode);
-        if lit && before.write == 1 && before.mode <= 2 {
+        if lit && before.write == 1 && matches!(before.mode, 1 | 2) {
             self.vector(before, outcome);
+        }
+    }
+
+    /// The two codes of a word, and what became of it.
+    fn halves(&mut self, word: u16, before: &Machine, outcome: &Outcome) {
+        let (first, second) = (word & 127, word >> 8 & 127);
+        let good = |code: u16| (32..=126).contains(&code);
+        let row = "halves of a character word";
+        match (good(first), good(second)) {
+            (true, true) => self.saw(row, "both good"),
+            (false, true) => self.saw(row, "first bad"),
+            (true, false) => self.saw(row, "second bad"),
+            (false, false) => self.saw(row, "both bad"),
+        }
+        if good(second) {
+            self.saw_listed("first code, second good", first.to_string());
+        }
+        if good(first) {
+            self.saw_listed("second code, first good", second.to_string());
+        }
+        let bit_7 = if word >> 7 & 1 == 1 { "set" } else { "clear" };
+        self.saw("bit 7 of a character word", bit_7);
+
+        let (answer, after) = (outcome.answer.number(), before.x.0 + 32);
+        if answer == 32 {
+            let row = "refused characters (32)";
+            let inside = cut(corners(before)[0]) == [false; 4];
+            let drawable = good(first) && inside && before.write == 1;
+            self.saw_if(row, drawable, "a good first half in the field");
+            self.saw_if(row, after > HIGHEST, "the range would be left too");
+            return;
+        }
+        let row = "X after two characters";
+        if answer == 27 {
+            self.saw_if(row, after == HIGHEST + 1, "4,096, refused (27)");
+            let room = if after - 16 <= HIGHEST { "one" } else { "none" };
+            self.saw(row, format!("refused (27), room for {}", room));
+        } else {
+            self.saw_listed(row, grouped(after));
+        }
+    }
+
+    /// Where the cells of a word lie that was drawn, and what set they are from.
+    fn cells(&mut self, case: &Case, word: u16, before: &Machine, outcome: &Outcome) {
+        if outcome.steps == 0 || before.write == 0 {
+            return;
+        }
+        let lent = case.set();
+        let (name, set) = match lent.len() {
+            0 => ("built-in set", &BUILT_IN[..]),
+            _ => ("lent set", &lent[..]),
+        };
+        let codes = [word & 127, word >> 8 & 127];
+        let halves = ["first", "second"];
+        for (half, (code, corner)) in halves.iter().zip(codes.iter().zip(corners(before))) {
+            let from = 8 * usize::from(code - 32);
+            let ink = ink(corner, &set[from..from + 8]);
+            let stored = ink.iter().filter(|&&place| in_field(place)).count();
+            if stored > 0 {
+                self.saw("character stored", format!("{}, {}", name, half));
+                let space = *code == 32 && !lent.is_empty();
+                self.saw_if("character stored", space, "lent set, space");
+                if lent.is_empty() && (48..=57).contains(code) {
+                    self.saw("digit stored from the built-in set", code - 48);
+                }
+            }
+            let row = match *half {
+                "first" => "cell's place, first character",
+                _ => "cell's place, second character",
+            };
+            let place = place(corner, stored, ink.len());
+            self.saw_if(row, !place.is_empty(), place);
+            let (left, right) = (corner == (0, 0), corner == (504, 504));
+            let inside = place == "inside";
+            if *half == "first" {
+                self.saw_if(row, inside && left, "inside, in the lower left corner");
+            } else {
+                self.saw_if(row, inside && right, "inside, in the upper right corner");
+            }
+            if ink.is_empty() && meets_field(&corner) {
+                self.saw("cell in the field without ink", name);
+            }
         }
     }
 
@@ -608,11 +817,7 @@ fn fields(machine: &Machine) -> [(&'static str, i64, bool); 8] {
     [
         ("machine's X", machine.x.0, units.contains(&machine.x.0)),
         ("machine's Y", machine.y.0, units.contains(&machine.y.0)),
-        (
-            "machine's mode",
-            mode.into(),
-            (1..=6).contains(&mode) || mode == 255,
-        ),
+        ("machine's mode", mode.into(), mode <= 6 || mode == 255),
         ("machine's value", machine.value.into(), machine.value < 4),
         ("machine's write", machine.write.into(), machine.write < 2),
         ("machine's latch", machine.latch.into(), machine.latch < 2),
@@ -624,7 +829,7 @@ fn fields(machine: &Machine) -> [(&'static str, i64, bool); 8] {
         (
             "machine's status",
             status.into(),
-            status < 3 || (21..=27).contains(&status),
+            status < 3 || (21..=27).contains(&status) || status == 32,
         ),
     ]
 }
@@ -658,6 +863,66 @@ fn word_at(file: &[u16], address: u16) -> Option<u16> {
     }
 }
 
+/// The lower left pixels of the two cells of a character word.
+fn corners(before: &Machine) -> [(i64, i64); 2] {
+    let (x, y) = (before.x.pixel().0, before.y.pixel().0);
+    [(x, y), (x + 8, y)]
+}
+
+/// The pixels of a cell that are stored if the field has them.
+fn ink((x, y): (i64, i64), rows: &[u8]) -> Vec<(i64, i64)> {
+    let mut places = Vec::new();
+    for (row, bits) in (0..8).zip(rows) {
+        for column in 0..8 {
+            if bits >> (7 - column) & 1 == 1 {
+                places.push((x + column, y + 7 - row));
+            }
+        }
+    }
+    places
+}
+
+fn in_field((x, y): (i64, i64)) -> bool {
+    (0..512).contains(&x) && (0..512).contains(&y)
+}
+
+/// Whether some pixel of the cell at a corner is in the field.
+fn meets_field(&(x, y): &(i64, i64)) -> bool {
+    (-7..512).contains(&x) && (-7..512).contains(&y)
+}
+
+/// Whether the cell at a corner goes over the left edge, the right, the upper and the lower one.
+fn cut((x, y): (i64, i64)) -> [bool; 4] {
+    [x < 0, x > 504, y > 504, y < 0]
+}
+
+/// The name of a cell's place, where its ink tells it: some of it stored, and where the cell is cut
+/// some of it not.
+fn place(corner: (i64, i64), stored: usize, ink: usize) -> &'static str {
+    if ink == 0 {
+        return "";
+    }
+    let sides = cut(corner);
+    if !meets_field(&corner) {
+        return match sides {
+            [true, _, false, false] => "beyond, left",
+            [_, true, false, false] => "beyond, right",
+            [false, false, true, _] => "beyond, above",
+            [false, false, _, true] => "beyond, below",
+            _ => "",
+        };
+    }
+    match sides {
+        [false, false, false, false] => "inside",
+        _ if stored == 0 || stored == ink => "",
+        [true, false, false, false] => "cut left",
+        [false, true, false, false] => "cut right",
+        [false, false, true, false] => "cut top",
+        [false, false, false, true] => "cut bottom",
+        _ => "cut at two sides",
+    }
+}
+
 /// Where an item takes the position, or would take it.
 fn aimed(first: u16, second: u16, machine: &Machine) -> (i64, i64) {
     let (Unit(x), Unit(y)) = (machine.x, machine.y);
@@ -665,6 +930,7 @@ fn aimed(first: u16, second: u16, machine: &Machine) -> (i64, i64) {
     let size = |word: u16, low: u16, mask: u16| i64::from(word >> low & mask);
     let way = |word: u16, sign: u16| if word >> sign & 1 == 1 { -1 } else { 1 };
     match machine.mode {
+        0 => (x + 32, y),
         1 | 6 => (
             x + way(first, 13) * size(first, 7, 63),
             y + way(first, 6) * size(first, 0, 63),

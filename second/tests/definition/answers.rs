@@ -12,6 +12,7 @@ struct Call {
     words: Vec<u16>,
     machine: Machine,
     budget: u64,
+    set: Vec<u8>,
 }
 
 fn sound() -> Call {
@@ -20,6 +21,7 @@ fn sound() -> Call {
         words: file(&[0o113400, 0o040006, 0o000004, 0o172000]),
         machine: fresh(),
         budget: 10,
+        set: Vec::new(),
     }
 }
 
@@ -49,10 +51,21 @@ impl Call {
         self
     }
 
+    fn set(mut self, bytes: usize) -> Call {
+        self.set = vec![0x3C; bytes];
+        self
+    }
+
     /// Checks the number, and that the refused call left all as it was.
     fn expect(mut self, number: u8) {
         let before = self.image.clone();
-        let outcome = run(&self.words, self.machine, &mut self.image, self.budget);
+        let outcome = run(
+            &self.words,
+            self.machine,
+            &mut self.image,
+            self.budget,
+            &self.set,
+        );
         assert_eq!(outcome.answer.number(), number);
         assert_eq!((outcome.steps, outcome.words, outcome.stores), (0, 0, 0));
         assert_eq!(outcome.machine, self.machine);
@@ -63,7 +76,7 @@ impl Call {
 #[test]
 fn the_sound_call_is_let_in() {
     let mut call = sound();
-    let outcome = run(&call.words, call.machine, &mut call.image, call.budget);
+    let outcome = run(&call.words, call.machine, &mut call.image, call.budget, &[]);
     assert_eq!(outcome.answer.number(), 1);
 }
 
@@ -83,7 +96,11 @@ fn each_door_of_a_run_alone() {
     sound().words(&[1, 1, 3, 0]).expect(15);
     sound().value(4).expect(16);
     sound().budget(1_000_001).expect(17);
-    for status in [1, 2, 21, 22, 23, 24, 25, 26, 27] {
+    for bytes in [1, 8, 752, 759, 761, 768, 1_024, 65_536] {
+        sound().set(bytes).expect(18);
+        sound().set(bytes).budget(0).expect(18);
+    }
+    for status in [1, 2, 21, 22, 23, 24, 25, 26, 27, 32] {
         sound().status(status).expect(28);
         sound().status(status).budget(0).expect(28);
         sound().status(status).budget(1).expect(28);
@@ -104,12 +121,16 @@ fn neighbouring_doors_speak_in_their_order() {
     sound().words(&[1, 1, 3, 0]).value(4).expect(15);
     sound().value(4).budget(1_000_001).expect(16);
     sound().value(4).status(1).expect(16);
+    sound().value(4).set(759).expect(16);
     sound().budget(1_000_001).status(1).expect(17);
+    sound().budget(1_000_001).set(759).expect(17);
+    sound().set(759).status(1).expect(18);
+    sound().set(761).status(32).expect(18);
 }
 
 #[test]
 fn with_everything_wrong_the_doors_open_one_by_one() {
-    let spoiled = || sound().value(4).budget(1_000_001).status(2);
+    let spoiled = || sound().value(4).budget(1_000_001).set(1).status(2);
     spoiled().image(0).words(&[]).expect(11);
     spoiled().words(&[7]).expect(12);
     spoiled().words(&[7, 9]).expect(13);
@@ -118,7 +139,9 @@ fn with_everything_wrong_the_doors_open_one_by_one() {
     spoiled().words(&[1, 1, 0, 5_000]).expect(15);
     spoiled().expect(16);
     spoiled().value(3).expect(17);
-    spoiled().value(3).budget(1_000_000).expect(28);
+    spoiled().value(3).budget(1_000_000).expect(18);
+    spoiled().value(3).budget(1_000_000).set(760).expect(28);
+    spoiled().value(3).budget(1_000_000).set(0).expect(28);
 }
 
 #[test]
@@ -128,9 +151,20 @@ fn a_step_has_the_doors_of_a_run() {
         status: 1,
         ..fresh()
     };
-    assert_eq!(step(&words, stopped, &mut blank()).answer.number(), 28);
-    assert_eq!(step(&words, fresh(), &mut [0; 5]).answer.number(), 11);
-    assert_eq!(step(&[1], fresh(), &mut blank()).answer.number(), 12);
+    assert_eq!(step(&words, stopped, &mut blank(), &[]).answer.number(), 28);
+    assert_eq!(step(&words, fresh(), &mut [0; 5], &[]).answer.number(), 11);
+    assert_eq!(step(&[1], fresh(), &mut blank(), &[]).answer.number(), 12);
+    for bytes in [1, 759, 761] {
+        let set = vec![0; bytes];
+        assert_eq!(
+            step(&words, fresh(), &mut blank(), &set).answer.number(),
+            18
+        );
+        assert_eq!(
+            step(&words, stopped, &mut blank(), &set).answer.number(),
+            18
+        );
+    }
 }
 
 #[test]
@@ -205,7 +239,7 @@ fn spoiled_machines() -> Vec<Machine> {
         spoiled.push(Machine { x: unit, ..sound });
         spoiled.push(Machine { y: unit, ..sound });
     }
-    for mode in [0, 7, 254] {
+    for mode in [7, 8, 254] {
         spoiled.push(Machine { mode, ..sound });
     }
     for value in [4, 255] {
@@ -224,7 +258,7 @@ fn spoiled_machines() -> Vec<Machine> {
     for increment in [64, 255] {
         spoiled.push(Machine { increment, ..sound });
     }
-    for status in [3, 11, 19, 20, 28, 31, 255] {
+    for status in [3, 11, 18, 19, 20, 28, 31, 33, 255] {
         spoiled.push(Machine { status, ..sound });
     }
     spoiled
@@ -239,7 +273,7 @@ fn extreme_machines() -> Vec<Machine> {
         extreme.push(Machine { x: unit, ..sound });
         extreme.push(Machine { y: unit, ..sound });
     }
-    for mode in [1, 6, NO_MODE] {
+    for mode in [0, 1, 6, NO_MODE] {
         extreme.push(Machine { mode, ..sound });
     }
     for value in [0, 3] {
@@ -269,21 +303,24 @@ fn sixteen_is_for_a_field_out_of_range() {
     let words = file(&[0o164000]);
     for machine in spoiled_machines() {
         let mut image = patterned();
-        let outcome = run(&words, machine, &mut image, 1);
+        let outcome = run(&words, machine, &mut image, 1, &[]);
         assert_eq!((outcome.answer.number(), outcome.machine), (16, machine));
         assert!(image == patterned());
         let (answer, left) = start(machine, 2);
         assert_eq!((answer.number(), left), (16, machine));
     }
     for machine in extreme_machines() {
-        assert_ne!(run(&words, machine, &mut blank(), 1).answer.number(), 16);
+        assert_ne!(
+            run(&words, machine, &mut blank(), 1, &[]).answer.number(),
+            16
+        );
         assert_eq!(start(machine, 2).0.number(), 0);
     }
 }
 
 #[test]
 fn start_accepts_any_known_status_and_any_address() {
-    for status in [0, 1, 2, 21, 22, 23, 24, 25, 26, 27] {
+    for status in [0, 1, 2, 21, 22, 23, 24, 25, 26, 27, 32] {
         for address in [0, 1, 8_190, 65_535] {
             let machine = Machine {
                 counter: 77,
@@ -407,7 +444,7 @@ fn refused_after(later: &[u16], number: u8) -> Outcome {
 fn a_refused_instruction_leaves_only_its_status() {
     assert_eq!(refused_after(&[], 23).machine.counter, 6);
     assert_eq!(refused_after(&[0o040010], 23).machine.counter, 6);
-    for code in [0, 7, 8, 9, 10, 11] {
+    for code in [7, 8, 9, 10, 11] {
         refused_after(&[0o100000 | code << 11, 0], 24);
     }
     refused_after(&[0o040010, 0o100000], 26);
@@ -429,7 +466,9 @@ fn a_jump_to_an_odd_or_missing_place_is_done_and_the_next_fetch_is_refused() {
 fn a_refused_first_instruction_counts_nothing() {
     for (segment, machine, number) in [
         (vec![0o040000], fresh(), 25),
-        (vec![0o100000], fresh(), 24),
+        (vec![0o134000], fresh(), 24),
+        (vec![0o020037], machine_at(0, 0, 0), 32),
+        (vec![0o020040], machine_at(4_064, 0, 0), 27),
         (vec![0o040000, 0o100000], machine_at(0, 0, 3), 26),
         (vec![0o057777], machine_at(4_095, 0, 6), 27),
         (vec![0o041777, 0], machine_at(4_000, 0, 2), 27),
@@ -466,7 +505,7 @@ fn a_fetch_checks_odd_then_segment_then_place() {
         (65_535, 21),
     ] {
         let machine = Machine { counter, ..fresh() };
-        let outcome = run(&words, machine, &mut blank(), 1);
+        let outcome = run(&words, machine, &mut blank(), 1, &[]);
         assert_eq!(outcome.answer.number(), number, "counter {}", counter);
     }
 }
@@ -474,7 +513,7 @@ fn a_fetch_checks_odd_then_segment_then_place() {
 #[test]
 fn the_word_itself_is_judged_before_a_second_fetch() {
     // Each of these is the last word of its segment.
-    assert_eq!(run_on_blank(&[0o100000], fresh(), 1).0.answer.number(), 24);
+    assert_eq!(run_on_blank(&[0o134000], fresh(), 1).0.answer.number(), 24);
     assert_eq!(
         run_on_blank(&[0o134000], machine_at(0, 0, 2), 1)
             .0
@@ -503,7 +542,7 @@ fn the_second_fetch_comes_before_26_and_27() {
             counter: 8_190,
             ..machine_at(4_095, 0, 2)
         };
-        let outcome = run(&segments, machine, &mut blank(), 1);
+        let outcome = run(&segments, machine, &mut blank(), 1, &[]);
         let expected = Machine {
             status: number,
             ..machine
@@ -543,8 +582,9 @@ fn every_mode_needs_one_to_be_set() {
     for word in [0, 0o040000, 0o077777] {
         assert_eq!(run_on_blank(&[word, 0], fresh(), 1).0.answer.number(), 25);
     }
-    for mode in 1..=6 {
-        let outcome = run_on_blank(&[0, 0], machine_at(0, 0, mode), 1).0;
+    for mode in 0..=6 {
+        // Two spaces, of which each other mode makes something too.
+        let outcome = run_on_blank(&[0o020040, 0], machine_at(0, 0, mode), 1).0;
         assert_eq!(outcome.answer.number(), 0);
     }
 }

@@ -193,6 +193,8 @@ impl Books {
             return;
         }
         match self.mode.as_str() {
+            // Each of two characters moves X by 16.
+            "0000" => self.x.moves.extend([16, 16]),
             "0001" | "0110" => {
                 self.x.moves.push(signed(&first, 13, 12, 7));
                 self.y.moves.push(signed(&first, 6, 5, 0));
@@ -230,7 +232,7 @@ impl Books {
 fn wandering_segment(random: &mut Random, length: usize) -> Vec<u16> {
     (0..length)
         .map(|_| match random.between(0, 19) {
-            0 | 1 => 0o104000 + random.between(0, 5) as u16 * 0o4000 + (random.word() & 0o3777),
+            0 | 1 => 0o100000 + random.between(0, 6) as u16 * 0o4000 + (random.word() & 0o3777),
             2 => 0o164000 | random.word() & 0o3777,
             3 => 0o170000 | random.word() & 0o1777,
             4 => 0o174000 | random.word() & 0o3777,
@@ -251,7 +253,7 @@ fn the_position_is_its_last_setting_and_the_moves_since() {
         let mut image = blank();
         while usize::from(machine.counter) < 2 * segment.len() {
             let budget = random.between(0, 40) as u64;
-            let outcome = run(&words, machine, &mut image, budget);
+            let outcome = run(&words, machine, &mut image, budget, &[]);
             for _ in 0..outcome.steps {
                 books.enter(&segment);
                 assert!(books.in_range());
@@ -317,7 +319,14 @@ fn a_million_steps_round_a_closed_figure_do_not_drift() {
 fn unlit_and_dark_items_move_like_lit_ones() {
     let mut random = Random::new(0x5eed_1006);
     for _ in 0..200 {
-        let segment = wandering_segment(&mut random, 60);
+        // Every character is lit, so that mode 1 stands in for mode 0.
+        let segment: Vec<u16> = wandering_segment(&mut random, 60)
+            .into_iter()
+            .map(|word| match word {
+                0o100000..=0o103777 => word | 0o004000,
+                _ => word,
+            })
+            .collect();
         let dark: Vec<u16> = segment
             .iter()
             .map(|&word| {
@@ -328,7 +337,8 @@ fn unlit_and_dark_items_move_like_lit_ones() {
                 }
             })
             .collect();
-        let machine = random.machine();
+        let mut machine = random.machine();
+        machine.mode = machine.mode.max(1);
         let (lit_run, _) = run_on_blank(&segment, machine, 100);
         let (dark_run, image) = run_on_blank(&dark, machine, 100);
         assert_eq!(

@@ -130,7 +130,7 @@ fn the_counter_wraps_after_65534() {
             counter: before,
             ..fresh()
         };
-        let outcome = step(&words, machine, &mut blank());
+        let outcome = step(&words, machine, &mut blank(), &[]);
         assert_eq!(outcome.answer.number(), 0);
         assert_eq!(outcome.machine.counter, after);
     }
@@ -146,7 +146,7 @@ fn a_second_word_is_fetched_across_the_wrap() {
         counter: 65_534,
         ..machine_at(0, 0, 3)
     };
-    let outcome = step(&words, machine, &mut blank());
+    let outcome = step(&words, machine, &mut blank(), &[]);
     assert_eq!((outcome.answer.number(), outcome.words), (0, 2));
     assert_eq!((outcome.machine.counter, end(&outcome)), (2, (17, 15)));
 }
@@ -326,18 +326,18 @@ fn the_latch_decides_between_the_two_stops() {
 fn budget_zero_does_nothing_and_a_million_is_the_most() {
     let words = file(&[0o160000, 0]);
     let mut image = patterned();
-    let outcome = run(&words, fresh(), &mut image, 0);
+    let outcome = run(&words, fresh(), &mut image, 0, &[]);
     assert_eq!(outcome.answer.number(), 0);
     assert_eq!((outcome.steps, outcome.words, outcome.stores), (0, 0, 0));
     assert_eq!(outcome.machine, fresh());
     assert!(image == patterned());
-    let outcome = run(&words, fresh(), &mut image, 1_000_000);
+    let outcome = run(&words, fresh(), &mut image, 1_000_000, &[]);
     assert_eq!(
         (outcome.answer.number(), outcome.steps, outcome.words),
         (0, 1_000_000, 2_000_000)
     );
     for budget in [1_000_001, u64::MAX] {
-        let outcome = run(&words, fresh(), &mut image, budget);
+        let outcome = run(&words, fresh(), &mut image, budget, &[]);
         assert_eq!((outcome.answer.number(), outcome.steps), (17, 0));
     }
 }
@@ -347,11 +347,14 @@ fn a_segment_of_4096_words_is_taken_and_one_more_is_not() {
     let mut words = vec![0o164000; 5_000];
     words[..4].copy_from_slice(&[1, 1, 4, 4_096]);
     assert_eq!(check(&words).number(), 0);
-    let outcome = run(&words, fresh(), &mut blank(), 5_000);
+    let outcome = run(&words, fresh(), &mut blank(), 5_000, &[]);
     assert_eq!((outcome.answer.number(), outcome.steps), (22, 4_096));
     words[3] = 4_097;
     assert_eq!(check(&words).number(), 15);
-    assert_eq!(run(&words, fresh(), &mut blank(), 1).answer.number(), 15);
+    assert_eq!(
+        run(&words, fresh(), &mut blank(), 1, &[]).answer.number(),
+        15
+    );
 }
 
 #[test]

@@ -36,7 +36,7 @@ fn running(machine: Machine, words: &[u16]) -> Machine {
 
 #[test]
 fn set_mode() {
-    for mode in 1..=6_u8 {
+    for mode in 0..=6_u8 {
         let word = 0o100000 | u16::from(mode) << 11;
         let left = running(before(1), &[word | 0o003400]);
         let expected = Machine {
@@ -202,7 +202,7 @@ fn status_c_is_for_memory_zero_only() {
 
 #[test]
 fn codes_not_built() {
-    for code in [0, 7, 8, 9, 10, 11] {
+    for code in [7, 8, 9, 10, 11] {
         for rest in [0, 0o003777] {
             let (outcome, left) = after(before(1), &[0o100000 | code << 11 | rest]);
             assert_eq!((outcome.answer.number(), outcome.steps), (24, 0));
@@ -213,6 +213,16 @@ fn codes_not_built() {
             assert_eq!(left, expected);
         }
     }
+}
+
+/// Two characters with all bits of one code and no other, then with bit 7: an underline, a space.
+#[test]
+fn characters() {
+    assert_eq!(data(0, &[0o020137]), (532, 300, 7));
+    assert_eq!(data(0, &[0o057440]), (532, 300, 7));
+    assert_eq!(data(0, &[0o020337]), (532, 300, 7));
+    assert_eq!(data(0, &[0o057640]), (532, 300, 7));
+    assert_eq!(data(0, &[0o020040]), (532, 300, 0));
 }
 
 /// Takes a data word in a mode and tells the move and the stores.
@@ -301,15 +311,17 @@ fn relative_point_fields_and_the_plot_at_its_end() {
 #[test]
 fn every_word_in_every_mode_is_refused_or_takes_its_number_of_words() {
     let mut image = blank();
-    for mode in [1, 2, 3, 4, 5, 6, 255] {
+    let good = |code: u16| (32..127).contains(&code);
+    for mode in [0, 1, 2, 3, 4, 5, 6, 255] {
         for word in 0..=65_535 {
             let words = file(&[word, 0]);
-            let outcome = step(&words, before(mode), &mut image);
+            let outcome = step(&words, before(mode), &mut image, &[]);
             let code = word >> 11 & 15;
             let (refusal, length) = match (word >> 15, mode) {
-                (1, _) if code == 0 || (7..=11).contains(&code) => (24, 0),
+                (1, _) if (7..=11).contains(&code) => (24, 0),
                 (1, _) => (0, if code == 12 { 2 } else { 1 }),
                 (_, 255) => (25, 0),
+                (_, 0) if !good(word & 127) || !good(word >> 8) => (32, 0),
                 (_, 2) | (_, 3) => (0, 2),
                 (_, _) => (0, 1),
             };

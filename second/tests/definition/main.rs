@@ -2,6 +2,7 @@
 
 mod answers;
 mod cases;
+mod characters;
 mod drift;
 mod edges;
 mod files;

@@ -79,11 +79,46 @@ fn v3_rectangle_with_diagonal() {
 }
 
 #[test]
-fn v4_characters_are_not_built() {
+fn v4_feed_me_ends_at_its_zero_byte() {
     let segment = [
         0o114024, 0o001050, 0o000577, 0o100000, 0o042506, 0o042105, 0o046440, 0o000105, 0o172000,
     ];
-    assert_eq!(line(&segment), "24 2 3 0 6 552 383");
+    // F, E, E, D and M have 21, 25, 25, 28 and 35 pixels, a space none.
+    assert_eq!(line(&segment), "32 6 7 134 14 648 383");
+}
+
+#[test]
+fn v4_feed_me_padded_with_a_space() {
+    let segment = [
+        0o114024, 0o001050, 0o000577, 0o100000, 0o042506, 0o042105, 0o046440, 0o020105, 0o172000,
+    ];
+    assert_eq!(line(&segment), "1 8 9 159 18 680 383");
+    // The lower left corner of the first cell, and of the cells after it, is at these pixels.
+    let corners = [
+        (276, 'F'),
+        (284, 'E'),
+        (292, 'E'),
+        (300, 'D'),
+        (316, 'M'),
+        (324, 'E'),
+    ];
+    let mut expected = Vec::new();
+    for (left, letter) in corners {
+        let rows = match letter {
+            'F' => [0x7E, 0x60, 0x60, 0x7C, 0x60, 0x60, 0x60, 0],
+            'E' => [0x7E, 0x60, 0x60, 0x7C, 0x60, 0x60, 0x7E, 0],
+            'D' => [0x78, 0x6C, 0x66, 0x66, 0x66, 0x6C, 0x78, 0],
+            _ => [0xC6, 0xEE, 0xFE, 0xD6, 0xD6, 0xC6, 0xC6, 0],
+        };
+        for (y, row) in (191..199).rev().zip(rows) {
+            let columns = (0..8).filter(|column| row >> (7 - column) & 1 == 1);
+            expected.extend(columns.map(|column| (left + column, y, 3)));
+        }
+    }
+    let mut lit = shown(&plotted_image(&segment));
+    lit.sort_unstable();
+    expected.sort_unstable();
+    assert_eq!(lit, expected);
 }
 
 const GRAPH_HEAD: [u16; 5] = [0o114000, 0o040000, 0o000577, 0o174150, 0o124000];
@@ -303,7 +338,8 @@ fn v12_op_code_table() {
     let write = |write| (0, Machine { write, ..machine });
     let nothing = (0, machine);
     let cases = [
-        (0o100000, refused(24)),
+        (0o100000, mode(0, 3)),
+        (0o102400, mode(0, 1)),
         (0o104000, mode(1, 3)),
         (0o106000, mode(1, 0)),
         (0o106400, mode(1, 1)),

@@ -1,7 +1,9 @@
 //! The program as it is called: input, output, exit status.
 
+use std::env;
+use std::fs;
 use std::io::Write;
-use std::process::{Command, Output, Stdio};
+use std::process::{self, Command, Output, Stdio};
 
 fn call(arguments: &[&str], input: &[u8]) -> Output {
     let mut child = Command::new(env!("CARGO_BIN_EXE_second"))
@@ -95,8 +97,61 @@ fn a_budget_may_be_0_and_a_million() {
 }
 
 #[test]
+fn the_built_in_set_is_written_byte_by_byte() {
+    assert_eq!(screen(&["set"], &[]), second::BUILT_IN);
+}
+
+/// The picture of the characters 1 and 7 with a file of so many bytes, all 0xFF, as the set.
+fn picture_with_set(name: &str, bytes: usize) -> Vec<u8> {
+    let path = env::temp_dir().join(format!("second-set-{}-{}", process::id(), name));
+    fs::write(&path, vec![0xFF; bytes]).expect("a file");
+    let words: [u16; 7] = [1, 1, 4, 3, 0o100000, 0x3731, 0o172000];
+    let input: Vec<u8> = words.iter().flat_map(|word| word.to_le_bytes()).collect();
+    let drawn = screen(&["picture", "1000", path.to_str().expect("text")], &input);
+    fs::remove_file(&path).expect("removed");
+    if bytes == 0 {
+        // As without a set.
+        assert!(drawn == screen(&["picture", "1000"], &input));
+        assert!(drawn == screen(&["fault", "1000"], &input));
+    }
+    drawn
+}
+
+#[test]
+fn a_picture_takes_a_lent_set_from_a_file() {
+    let mut blank = b"P5\n512 512\n3\n".to_vec();
+    let head = blank.len();
+    blank.resize(head + 512 * 512, 0);
+    // Two cells full of ink in the lower left corner.
+    let mut cells = blank.clone();
+    for row in 504..512 {
+        cells[head + 512 * row..head + 512 * row + 16].fill(3);
+    }
+    assert!(picture_with_set("full", 760) == cells);
+    for (name, bytes) in [("one", 1), ("less", 759), ("more", 761), ("much", 70_000)] {
+        assert!(picture_with_set(name, bytes) == blank, "{} bytes", bytes);
+    }
+    let built_in = picture_with_set("none", 0);
+    assert_eq!(
+        built_in
+            .iter()
+            .skip(head)
+            .filter(|&&digit| digit == 3)
+            .count(),
+        21 + 18
+    );
+}
+
+#[test]
+fn a_set_that_is_not_there_is_a_failure() {
+    let output = call(&["picture", "1000", "/dev/null/none"], &[1, 0]);
+    assert_eq!(output.status.code(), Some(1));
+    assert!(output.stdout.is_empty());
+}
+
+#[test]
 fn other_arguments_get_a_sentence_and_status_2() {
-    let wrong: [&[&str]; 16] = [
+    let wrong: [&[&str]; 19] = [
         &[],
         &["Plot"],
         &["plot", "file"],
@@ -110,9 +165,12 @@ fn other_arguments_get_a_sentence_and_status_2() {
         &["picture", "1,000"],
         &["picture", "many"],
         &["picture", ""],
-        &["picture", "1000", "1000"],
+        &["picture", "many", "set"],
+        &["picture", "1000", "set", "set"],
+        &["set", "1000"],
         &["fault", "1000001"],
         &["fault", "many"],
+        &["fault", "1000", "set"],
     ];
     for arguments in wrong {
         let output = call(arguments, &[1, 0]);

@@ -79,7 +79,7 @@ fn a_jump_target_may_have_bit_15() {
     let empty: &[u16] = &[];
     let words = file_of(&[&[0o160000, 0o100000], empty, empty, empty, &[0o172000]]);
     let mut image = blank();
-    let outcome = second::run(&words, fresh(), &mut image, 10);
+    let outcome = second::run(&words, fresh(), &mut image, 10, &[]);
     assert_eq!(
         (outcome.answer.number(), outcome.steps, outcome.words),
         (1, 2, 3)

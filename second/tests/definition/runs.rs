@@ -8,7 +8,7 @@ use crate::support::*;
 fn lively_segment(random: &mut Random, length: usize) -> Vec<u16> {
     (0..length)
         .map(|_| match random.between(0, 9) {
-            0 | 1 => 0o104000 + random.between(0, 5) as u16 * 0o4000 + (random.word() & 0o3777),
+            0 | 1 => 0o100000 + random.between(0, 6) as u16 * 0o4000 + (random.word() & 0o3777),
             2 => 0o164000 | random.word() & 0o3777,
             3 => 0o174000 | random.word() & 0o3777,
             4 => 0o170000 | random.word() & 0o3777,
@@ -25,13 +25,13 @@ fn a_run_is_its_steps_one_after_another() {
         let machine = random.machine();
         let budget = random.between(0, 60) as u64;
         let mut whole_image = patterned();
-        let whole = run(&words, machine, &mut whole_image, budget);
+        let whole = run(&words, machine, &mut whole_image, budget, &[]);
 
         let mut image = patterned();
         let mut now = machine;
         let (mut steps, mut fetched, mut stores) = (0, 0, 0);
         while steps < budget && now.status == 0 {
-            let one = step(&words, now, &mut image);
+            let one = step(&words, now, &mut image, &[]);
             assert_eq!(one.answer.number(), one.machine.status);
             if one.steps == 0 {
                 assert!(one.answer.number() >= 21);
@@ -66,8 +66,8 @@ fn only_the_header_and_the_segments_matter() {
         other.extend((0..random.between(0, 9)).map(|_| random.word()));
         let machine = random.machine();
         let (mut one_image, mut other_image) = (patterned(), patterned());
-        let one_outcome = run(&one, machine, &mut one_image, 50);
-        let other_outcome = run(&other, machine, &mut other_image, 50);
+        let one_outcome = run(&one, machine, &mut one_image, 50, &[]);
+        let other_outcome = run(&other, machine, &mut other_image, 50, &[]);
         assert_eq!(one_outcome, other_outcome);
         assert!(one_image == other_image);
     }
@@ -81,7 +81,7 @@ fn a_refused_instruction_touches_no_pixel() {
         let words = file(&[random.word(), random.word()]);
         let machine = random.machine();
         let mut image = patterned();
-        let outcome = step(&words, machine, &mut image);
+        let outcome = step(&words, machine, &mut image, &[]);
         if outcome.answer.number() >= 21 {
             refusals += 1;
             let status = outcome.answer.number();
@@ -150,10 +150,10 @@ fn the_stored_value_is_the_one_set_last() {
 fn a_stopped_machine_runs_on_after_a_start_and_keeps_its_mode() {
     let words = file(&[0o104000, 0o000203, 0o172000, 0o000203]);
     let mut image = blank();
-    let first = run(&words, fresh(), &mut image, 10);
+    let first = run(&words, fresh(), &mut image, 10, &[]);
     assert_eq!((first.answer.number(), first.machine.counter), (1, 6));
     let (_, started) = start(first.machine, first.machine.counter);
-    let second = run(&words, started, &mut image, 1);
+    let second = run(&words, started, &mut image, 1, &[]);
     assert_eq!(
         (
             second.answer.number(),
@@ -178,7 +178,7 @@ fn stores_are_listed_in_their_order() {
     let words = file(&[
         0o041002, 0o061102, 0o114000, 0o040004, 0o000002, 0o104000, 0o064000,
     ]);
-    let listed: Vec<_> = stores(&words, machine_at(0, 0, 1), 6)
+    let listed: Vec<_> = stores(&words, machine_at(0, 0, 1), 6, &[])
         .iter()
         .map(|place| (place.x.0, place.y.0))
         .collect();
@@ -194,10 +194,10 @@ fn the_listed_stores_make_the_picture_of_the_run() {
     let mut random = Random::new(0x5eed_0009);
     let mut total = 0;
     for _ in 0..300 {
-        let mode = random.between(1, 6);
+        let mode = random.between(0, 6);
         let mut segment: Vec<u16> = (0..30).map(|_| random.word() & 0o77777).collect();
         // Another mode after half of the words, and no pixel value.
-        segment[15] = 0o100000 | random.between(1, 6) as u16 * 0o4000;
+        segment[15] = 0o100000 + random.between(0, 6) as u16 * 0o4000;
         let machine = Machine {
             increment: random.between(0, 63) as u8,
             ..machine_at(
@@ -208,8 +208,8 @@ fn the_listed_stores_make_the_picture_of_the_run() {
         };
         let words = file(&segment);
         let mut image = blank();
-        let outcome = run(&words, machine, &mut image, 60);
-        let listed = stores(&words, machine, 60);
+        let outcome = run(&words, machine, &mut image, 60, &[]);
+        let listed = stores(&words, machine, 60, &[]);
         assert_eq!(listed.len() as u64, outcome.stores);
         let mut pixels: Vec<_> = listed
             .iter()

@@ -58,10 +58,11 @@ pub fn machine_at(x: i64, y: i64, mode: u8) -> Machine {
     }
 }
 
-/// Runs words as the only segment, on a blank image, and hands back the image too.
+/// Runs words as the only segment, on a blank image and with the built-in characters, and hands back
+/// the image too.
 pub fn run_on_blank(segment: &[u16], machine: Machine, budget: u64) -> (Outcome, Vec<u8>) {
     let mut image = blank();
-    let outcome = run(&file(segment), machine, &mut image, budget);
+    let outcome = run(&file(segment), machine, &mut image, budget, &[]);
     (outcome, image)
 }
 
@@ -141,7 +142,7 @@ impl Random {
             counter: 0,
             x: Unit(self.between(-4_096, 4_095)),
             y: Unit(self.between(-4_096, 4_095)),
-            mode: [NO_MODE, 1, 2, 3, 4, 5, 6][self.between(0, 6) as usize],
+            mode: [NO_MODE, 0, 1, 2, 3, 4, 5, 6][self.between(0, 7) as usize],
             value: self.between(0, 3) as u8,
             write: self.between(0, 1) as u8,
             latch: self.between(0, 1) as u8,

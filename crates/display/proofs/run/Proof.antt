@@ -1,13 +1,11 @@
-use mathlib.Core.Path.{sym, _∙_}
-use native.Mathlib.Omega.{arith}
 use borrow.Author.Needs.{needs}
-use Rattle.doors.proofs.DoorLaws.{opened}
-use Rattle.display.proofs.CallLaws.{turned-away, ran}
+use Rattle.definition.specs.Calls.{lending}
+use Rattle.display.proofs.CallLaws.{turned-away, turned-away-then, granted, ran}
 use Rattle.display.proofs.run.Statement.{statement}
 use Rattle.display.proofs.run.Tie as tie
 
-run-door-requires : tie.Need-run-door-requires
-run-door-requires c κs = search needs
+lent-door-requires : tie.Need-lent-door-requires
+lent-door-requires c κs = search needs
 
 turned-away-requires : tie.Need-turned-away-requires
 turned-away-requires c κs = search needs
@@ -16,29 +14,48 @@ same-length : tie.Need-same-length
 same-length c = search needs
 
 returns : tie.Need-returns
-returns c = turned-away _ _ _ _ (c .before .before .run-door .ensures) (c .before .if1 .taken) (c .turned-away .ensures)
+returns c = turned-away (lending _ _) _ _ _ (c .before .before .lent-door .ensures) (c .before .if1 .taken) (c .turned-away .ensures)
 
-run-requires : tie.Need-run-requires
-run-requires c κs =
-    let o = opened _ _ _ _ (sym (c .before .before .run-door .ensures) ∙ c .before .if1 .left) in
-    (o .0, o .1, omega (arith, o .2))
+asked-door-requires : tie.Need-asked-door-requires
+asked-door-requires c κs = search needs
+
+turned-away-requires-2 : tie.Need-turned-away-requires-2
+turned-away-requires-2 c κs = search needs
 
 same-length-2 : tie.Need-same-length-2
 same-length-2 c = search needs
 
 returns-2 : tie.Need-returns-2
 returns-2 c =
+    let a = c .before .before in
+    turned-away-then (lending _ _) _ _ _ (a .before .before .lent-door .ensures) (a .before .if1 .left) (a .asked-door .ensures) (c .before .if2 .taken) (c .turned-away2 .ensures)
+
+run-requires : tie.Need-run-requires
+run-requires c κs =
+    let a = c .before .before in
+    granted (lending _ _) _ _ _ (a .before .before .lent-door .ensures) (a .before .if1 .left) (a .asked-door .ensures) (c .before .if2 .left)
+
+same-length-3 : tie.Need-same-length-3
+same-length-3 c = search needs
+
+returns-3 : tie.Need-returns-3
+returns-3 c =
     let r = c .before .before in
-    ran _ _ _ _ (r .before .before .before .run-door .ensures) (r .before .before .if1 .left) (r .run .ensures)
+    let a = r .before .before .before in
+    ran (lending _ _) _ _ _ (a .before .before .lent-door .ensures) (a .before .if1 .left) (a .asked-door .ensures) (r .before .before .if2 .left) (r .run .ensures)
 
 pub run-spec : {M : Type 1} → statement M
 run-spec =
     tie.close
     (tie.spec
-    run-door-requires
+    lent-door-requires
     turned-away-requires
     same-length
     returns
-    run-requires
+    asked-door-requires
+    turned-away-requires-2
     same-length-2
-    returns-2)
+    returns-2
+    run-requires
+    same-length-3
+    returns-3)

@@ -1,7 +1,7 @@
 use mathlib.Core.Bool.{true, false}
 use mathlib.Core.Path.{refl}
 use native.Mathlib.Omega.{arith}
-use lib.Dec.{ltb}
+use lib.Dec.{eqb}
 use Rattle.definition.specs.Machine.{isStatus}
 use Rattle.definition.proofs.Tables.{spanned}
 use Rattle.doors.proofs.is_status.Statement.{statement}
@@ -17,7 +17,11 @@ returns-2 c = spanned isStatus (λ n. false) _ _ _ (c .before .if1 .left) (c .if
 
 returns-3 : tie.Need-returns-3
 unfolding isStatus
-returns-3 c = spanned isStatus (λ n. ltb n _) _ _ _ (c .if2 .left) (c .before .before .fits .status .fits) refl
+returns-3 c = spanned isStatus (λ n. true) _ _ _ (c .before .if2 .left) (c .if3 .taken) refl
+
+returns-4 : tie.Need-returns-4
+unfolding isStatus
+returns-4 c = spanned isStatus (λ n. eqb n _) _ _ _ (c .if3 .left) (c .before .before .before .fits .status .fits) refl
 
 pub is-status-spec : {M : Type 1} → statement M
-is-status-spec = tie.close (tie.spec returns returns-2 returns-3)
+is-status-spec = tie.close (tie.spec returns returns-2 returns-3 returns-4)

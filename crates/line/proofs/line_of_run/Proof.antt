@@ -10,13 +10,17 @@ fresh-requires c κs = search needs
 slice-aggregate-run : tie.Need-slice-aggregate-run
 slice-aggregate-run c = search needs
 
+slice-aggregate-run-2 : tie.Need-slice-aggregate-run-2
+slice-aggregate-run-2 c = search needs
+
 run-requires : tie.Need-run-requires
 run-requires c κs = search needs
 
 returns : tie.Need-returns
-returns c =
-    let k = c .before .before .before in
-    fresh-run _ (k .run .ensures) (k .before .before .fresh .ensures) refl refl refl
+returns c = let k = c .before .before .before in
+    fresh-run _ (k .run .ensures) (k .before .before .before .fresh .ensures) refl refl refl
 
 pub line-of-run-spec : {M : Type 1} → statement M
-line-of-run-spec = tie.close (tie.spec fresh-requires slice-aggregate-run run-requires returns)
+line-of-run-spec =
+    tie.close
+    (tie.spec fresh-requires slice-aggregate-run slice-aggregate-run-2 run-requires returns)

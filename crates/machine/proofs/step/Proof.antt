@@ -1,7 +1,8 @@
 use native.Mathlib.Omega.{arith}
 use borrow.Author.Needs.{needs}
-use Rattle.definition.specs.Calls.{plain, given}
-use Rattle.machine.proofs.StepLaws.{not-fetched, word-refused, done-order, done-item, decode-sets}
+use mathlib.Core.Path.{sym, _∙_}
+use Rattle.definition.specs.Calls.{lending, plain, given}
+use Rattle.machine.proofs.StepLaws.{not-fetched, word-refused, order-alone, done-order, done-item, decode-drawable}
 use Rattle.machine.proofs.step.Statement.{statement}
 use Rattle.machine.proofs.step.Tie as tie
 
@@ -21,7 +22,7 @@ refused-requires : tie.Need-refused-requires
 refused-requires c κs = search needs
 
 returns : tie.Need-returns
-returns c = not-fetched (given (plain _)) _ (c .before .before .before .before .fetch .ensures) _ (c .before .before .enum-told .given .1) (c .before .number-in .ensures) (c .refused .ensures)
+returns c = not-fetched (given (lending _ _)) _ (c .before .before .before .before .fetch .ensures) _ (c .before .before .enum-told .given .1) (c .before .number-in .ensures) (c .refused .ensures)
 
 first-refusal-requires : tie.Need-first-refusal-requires
 first-refusal-requires c κs = search needs
@@ -32,7 +33,7 @@ refused-requires-2 c κs = search needs
 returns-2 : tie.Need-returns-2
 returns-2 c =
     let w = c .before .before .before .before in
-    word-refused (given (plain _)) _ (w .before .before .fetch .ensures) (w .got .given .1) (c .before .before .first-refusal .ensures) _ (λ z. omega (arith, c .before .if1 .taken)) (c .refused2 .ensures)
+    word-refused (given (lending _ _)) _ (w .before .before .fetch .ensures) (w .got .given .1) (c .before .before .first-refusal .ensures) _ (λ z. omega (arith, c .before .if1 .taken)) (c .refused2 .ensures)
 
 decode-requires : tie.Need-decode-requires
 decode-requires c κs = search needs
@@ -49,14 +50,14 @@ enum-known-lit c = search needs
 draws-requires : tie.Need-draws-requires
 draws-requires c κs =
     let d = c .before .before .before .before in
-    let h = d .before .before .before .before .before .before .before .before .before .pre in
-    (h .0, h .1, decode-sets _ _ (d .decode .ensures) (c .before .before .lit .given .1))
+    let h = d .before .before .before .before .before .before .before .before .before .before .pre in
+    (h .0, h .1, h .2, decode-drawable _ _ (sym (d .before .before .first-refusal .ensures) ∙ omega (arith, d .before .if1 .left)) (d .decode .ensures) (c .before .before .lit .given .1))
 
 returns-3 : tie.Need-returns-3
 returns-3 c =
     let d = c .before .before .before .before in
     let w = d .before .before .before .before in
-    done-order (given (plain _)) _ (w .before .before .fetch .ensures) (w .got .given .1) (d .before .before .first-refusal .ensures) (omega (arith, d .before .if1 .left)) (d .decode .ensures) _ (c .before .before .order .given .1) (c .does .ensures)
+    done-order (given (lending _ _)) _ (w .before .before .fetch .ensures) (w .got .given .1) (d .before .before .first-refusal .ensures) (omega (arith, d .before .if1 .left)) (d .decode .ensures) _ (c .before .before .order .given .1) (given (plain _)) (order-alone _ _ _ _) (c .does .ensures)
 
 same-length : tie.Need-same-length
 same-length c = search needs
@@ -65,7 +66,7 @@ returns-4 : tie.Need-returns-4
 returns-4 c =
     let d = c .before .before .before .before .before .before .before in
     let w = d .before .before .before .before in
-    done-item (given (plain _)) _ (w .before .before .fetch .ensures) (w .got .given .1) (d .before .before .first-refusal .ensures) (omega (arith, d .before .if1 .left)) (d .decode .ensures) _ (c .before .before .before .before .before .lit .given .1) (c .before .before .draws .ensures)
+    done-item (given (lending _ _)) _ (w .before .before .fetch .ensures) (w .got .given .1) (d .before .before .first-refusal .ensures) (omega (arith, d .before .if1 .left)) (d .decode .ensures) _ (c .before .before .before .before .before .lit .given .1) (c .before .before .draws .ensures)
 
 pub step-spec : {M : Type 1} → statement M
 step-spec =

@@ -4,10 +4,10 @@ use Rattle.picture.proofs.draw_all.Statement.{statement}
 use Rattle.picture.proofs.draw_all.Tie as tie
 
 abbrev Inv-loop : tie.InvT-loop
-Inv-loop count budget pair₀ pair = Unit {0}
+Inv-loop count budget set pair₀ pair = Unit {0}
 
 abbrev μ-loop : tie.MeasureT-loop
-μ-loop count budget pair₀ pair = count - pair
+μ-loop count budget set pair₀ pair = count - pair
 
 loop-holds : tie.Need-loop-holds Inv-loop μ-loop
 loop-holds c = search needs
@@ -15,11 +15,14 @@ loop-holds c = search needs
 mul-draw : tie.Need-mul-draw Inv-loop μ-loop
 mul-draw c = search needs
 
+add-draw : tie.Need-add-draw Inv-loop μ-loop
+add-draw c = search needs
+
 mul-draw-2 : tie.Need-mul-draw-2 Inv-loop μ-loop
 mul-draw-2 c = search needs
 
-add-draw : tie.Need-add-draw Inv-loop μ-loop
-add-draw c = search needs
+add-draw-2 : tie.Need-add-draw-2 Inv-loop μ-loop
+add-draw-2 c = search needs
 
 draw-requires : tie.Need-draw-requires Inv-loop μ-loop
 draw-requires c κs = search needs
@@ -47,8 +50,9 @@ draw-all-spec =
     μ-loop
     loop-holds
     mul-draw
-    mul-draw-2
     add-draw
+    mul-draw-2
+    add-draw-2
     draw-requires
     add-pair
     loop-less

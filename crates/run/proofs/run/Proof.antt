@@ -5,41 +5,41 @@ use native.Mathlib.Omega.{arith}
 use lib.ListN.{length}
 use Rattle.definition.specs.Machine.{ranged}
 use Rattle.definition.specs.Run.{begun, run}
-use Rattle.definition.specs.Calls.{plain, given, answered}
+use Rattle.definition.specs.Calls.{lending, given, answered}
 use Rattle.run.proofs.RunLaws.{state, Few, step-in-range, step-few, run-next, run-spent, run-over}
 use Rattle.run.proofs.run.Statement.{statement}
 use Rattle.run.proofs.run.Tie as tie
 
 abbrev Inv-loop : tie.InvT-loop
-Inv-loop file image₀ budget here₀ steps₀ words₀ stores₀ left₀ image here steps words stores left =
+Inv-loop file image₀ budget set here₀ steps₀ words₀ stores₀ left₀ image here steps words stores left =
     (length image ≡ length image₀)
     × (ranged here ≡ true)
     × (steps + 4096 * left ≤ 4096 * budget)
     × (words + 4096 * left ≤ 4096 * budget)
     × (stores + 4096 * left ≤ 4096 * budget)
-    × (run (given (plain file)) left (state here image steps words stores) ≡ run (given (plain file)) budget (begun here₀ image₀))
+    × (run (given (lending file set)) left (state here image steps words stores) ≡ run (given (lending file set)) budget (begun here₀ image₀))
 
 abbrev μ-loop : tie.MeasureT-loop
-μ-loop file image₀ budget here₀ steps₀ words₀ stores₀ left₀ image here steps words stores left = left
+μ-loop file image₀ budget set here₀ steps₀ words₀ stores₀ left₀ image here steps words stores left = left
 
 -- what the step at hand adds to the counts
 few : (c : tie.After-step Inv-loop μ-loop) → Few (c .step .result .counts)
-few c = step-few (given (plain _)) _ _ (c .step .ensures) (c .before .before .before .before .before .loop .inv .1)
+few c = step-few (given (lending _ _)) _ _ (c .step .ensures) (c .before .before .before .before .before .loop .inv .1)
 
 loop-holds : tie.Need-loop-holds Inv-loop μ-loop
-loop-holds c = (refl, c .before .before .pre .1, omega arith, omega arith, omega arith, refl)
+loop-holds c = (refl, c .before .before .before .pre .1, omega arith, omega arith, omega arith, refl)
 
 step-requires : tie.Need-step-requires Inv-loop μ-loop
-step-requires c κs = let l = c .before .before .before .before in (l .loop .inv .0 ∙ l .before .before .before .pre .0, l .loop .inv .1)
+step-requires c κs = let l = c .before .before .before .before in (l .loop .inv .0 ∙ l .before .before .before .before .pre .0, l .loop .inv .1, l .before .before .before .before .pre .3)
 
 add-steps : tie.Need-add-steps Inv-loop μ-loop
-add-steps c = let l = c .before .before .before .before .before .before .before .before .before in omega (arith, few (c .before .before .before .before), l .loop .inv .2, l .before .before .before .pre .2)
+add-steps c = let l = c .before .before .before .before .before .before .before .before .before in omega (arith, few (c .before .before .before .before), l .loop .inv .2, l .before .before .before .before .pre .2)
 
 add-words : tie.Need-add-words Inv-loop μ-loop
-add-words c = let l = c .before .before .before .before .before .before .before .before .before .before in omega (arith, few (c .before .before .before .before .before), l .loop .inv .3, l .before .before .before .pre .2)
+add-words c = let l = c .before .before .before .before .before .before .before .before .before .before in omega (arith, few (c .before .before .before .before .before), l .loop .inv .3, l .before .before .before .before .pre .2)
 
 add-stores : tie.Need-add-stores Inv-loop μ-loop
-add-stores c = let l = c .before .before .before .before .before .before .before .before .before .before .before in omega (arith, few (c .before .before .before .before .before .before), l .loop .inv .4, l .before .before .before .pre .2)
+add-stores c = let l = c .before .before .before .before .before .before .before .before .before .before .before in omega (arith, few (c .before .before .before .before .before .before), l .loop .inv .4, l .before .before .before .before .pre .2)
 
 sub-left : tie.Need-sub-left Inv-loop μ-loop
 sub-left c = omega (arith, c .before .before .before .before .before .before .before .before .before .before .loop-test .taken)
@@ -52,9 +52,9 @@ loop-again c =
     let s = c .before .before .before .before .before .before in
     let l = s .before .before .before .before .before in
     let k = few s in
-    let turn = run-next (given (plain _)) _ _ (s .step .ensures) (l .loop .left) (l .loop .steps) (l .loop .words) (l .loop .stores) (omega (arith, s .before .before .before .before .loop-test .taken)) (s .before .before .if1 .left) in (
+    let turn = run-next (given (lending _ _)) _ _ (s .step .ensures) (l .loop .left) (l .loop .steps) (l .loop .words) (l .loop .stores) (omega (arith, s .before .before .before .before .loop-test .taken)) (s .before .before .if1 .left) in (
       s .step .kept .1 .1 .0 ∙ l .loop .inv .0,
-      step-in-range (given (plain _)) _ _ (s .step .ensures) (l .loop .inv .1),
+      step-in-range (given (lending _ _)) _ _ (s .step .ensures) (l .loop .inv .1),
       omega arith,
       omega arith,
       omega arith,
@@ -65,13 +65,13 @@ same-length : tie.Need-same-length Inv-loop μ-loop
 same-length c = c .before .loop .inv .0
 
 returns : tie.Need-returns Inv-loop μ-loop
-returns c = ap answered (run-spent (given (plain _)) _ _ (omega (arith, c .loop-test .left)) ∙ c .before .loop .inv .5)
+returns c = ap answered (run-spent (given (lending _ _)) _ _ (omega (arith, c .loop-test .left)) ∙ c .before .loop .inv .5)
 
 same-length-2 : tie.Need-same-length-2 Inv-loop μ-loop
 same-length-2 c = c .before .before .before .loop .inv .0
 
 returns-2 : tie.Need-returns-2 Inv-loop μ-loop
-returns-2 c = ap answered (run-over (given (plain _)) _ _ (c .if1 .taken) ∙ c .before .before .before .loop .inv .5)
+returns-2 c = ap answered (run-over (given (lending _ _)) _ _ (c .if1 .taken) ∙ c .before .before .before .loop .inv .5)
 
 pub run-spec : {M : Type 1} → statement M
 run-spec =

@@ -14,10 +14,10 @@ blank-again : (c : tie.After-clear) → c .clear .last .0 ≡ blank
 blank-again c = c .clear .ensures ∙ cleared-is-blank _ (omega arith)
 
 returns : tie.Need-returns
-returns c = odd _ _ (blank-again (c .before)) (omega arith)
+returns c = odd _ _ _ (blank-again (c .before)) (omega arith)
 
 returns-2 : tie.Need-returns-2
-returns-2 c = too-long _ _ (blank-again (c .before .before)) (omega arith)
+returns-2 c = too-long _ _ _ (blank-again (c .before .before)) (omega arith)
 
 slice-aggregate-words-of : tie.Need-slice-aggregate-words-of
 slice-aggregate-words-of c = search needs
@@ -42,7 +42,7 @@ returns-3 c =
     let f = c .before .before in
     let w = f .before .before .before in
     let cleared = blank-again (w .before .before .before .before) in
-    ran _ _ cleared (omega arith) (omega arith) (w .words-of .ensures .1 .0) (f .fresh .ensures) (c .run .ensures)
+    ran _ _ _ cleared (omega arith) (omega arith) (w .words-of .ensures .1 .0) (f .fresh .ensures) (c .run .ensures)
 
 pub draw-spec : {M : Type 1} → statement M
 draw-spec =

@@ -12,7 +12,8 @@ item-refusal-requires : tie.Need-item-refusal-requires
 item-refusal-requires c κs = search needs
 
 returns-2 : tie.Need-returns-2
-returns-2 c = search (c .item-refusal .ensures)
+returns-2 c = search needs
 
 pub first-refusal-spec : {M : Type 1} → statement M
-first-refusal-spec = tie.close (tie.spec order-refusal-requires returns item-refusal-requires returns-2)
+first-refusal-spec =
+    tie.close (tie.spec order-refusal-requires returns item-refusal-requires returns-2)

@@ -1,6 +1,6 @@
-use borrow.Author.Needs.{needs}
 use native.Mathlib.Omega.{arith}
 use Rattle.words.proofs.WordLaws.{short-vector, long-vector, absolute-point, graph-x, graph-y, relative-point}
+use borrow.Author.Needs.{needs}
 use Rattle.words.proofs.item.Statement.{statement}
 use Rattle.words.proofs.item.Tie as tie
 
@@ -44,7 +44,7 @@ returns-5 : tie.Need-returns-5
 returns-5 c = graph-y _ _ (c .before .match .keys5) (c .coordinate3 .ensures)
 
 returns-6 : tie.Need-returns-6
-returns-6 c = relative-point _ _ (omega arith) (omega arith) (omega arith) (omega arith) (omega arith) (c .before .short-x2 .ensures) (c .short-y2 .ensures)
+returns-6 c = relative-point _ _ (c .before .before .before .pre) (omega arith) (omega arith) (omega arith) (omega arith) (omega arith) (c .before .short-x2 .ensures) (c .short-y2 .ensures)
 
 pub item-spec : {M : Type 1} → statement M
 item-spec =

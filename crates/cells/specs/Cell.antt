@@ -1,0 +1,28 @@
+-- What the drawing of a cell asks and draws: where its corner may be, the pixel of a bit, and the pixels of a row.
+use Prim.Native.Nat.{ℕ, _-_}
+use mathlib.Core.Bool.{Bool}
+use mathlib.Core.List.{List, [], _∷_}
+use lib.ListN.{getD}
+use lib.IntN.{ℤ, pos, negsuc, _+ℤ_}
+use lib.Signed.{_≤ℤ_}
+use Rattle.definition.specs.Choice.{pick}
+use Rattle.definition.specs.Units.{pixel}
+use Rattle.definition.specs.Characters.{isSet, rowPixels}
+use Rattle.definition.specs.declared.Pixels.{Pixels}
+use Rattle.definition.specs.declared.Pixel.{Pixel}
+
+-- the coordinates that a corner may have, so that those of its cell fit in 32 bits: every pixel of a position in range, and one character further
+pub record Near (p : Pixels) : Type 0 where
+  pub low : negsuc 2047 ≤ℤ p .0
+  pub high : p .0 ≤ℤ pos 2055
+
+-- a set bit's pixel; a clear one has none
+unfoldable pub dot : Bool → Pixel → List Pixel
+dot on p = pick on (p ∷ []) []
+
+-- bit k of a row, and row r of a cell: the definition's, one by one
+abbrev pub bitPixels : ℤ → ℤ → ℕ → ℕ → List Pixel
+bitPixels x y row k = pick (isSet row k) (pixel (x +ℤ pos k) y ∷ []) []
+
+abbrev pub rowAt : Pixel → List ℕ → ℕ → List Pixel
+rowAt corner cell r = rowPixels (corner .x .0) (corner .y .0 +ℤ pos (7 - r)) (getD cell r 0)
