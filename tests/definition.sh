@@ -74,13 +74,14 @@ agree() {
         function whole(n) { return n < 0 ? "negsuc " (-n - 1) : "pos " n }
         function state() {
             # print, since printf has a limit in some awks
-            if (left != "") print "\npub files" from " : (" left "[]) ≡ " right "[]\nunfolding rules stored seenOf\nfiles" from " = refl"
+            if (left != "") print "\npub files" from " : (" left "[]) ≡ " right "[]\nunfolding rules builtIn stored seenOf\nfiles" from " = refl"
             left = right = ""
         }
         BEGIN {
             print "use mathlib.Core.Path.{_≡_, refl}"
             print "use mathlib.Core.List.{[], _∷_}"
             print "use lib.IntN.{pos, negsuc}"
+            print "use Rattle.definition.specs.BuiltIn.{builtIn}"
             print "use Rattle.definition.proofs.Opened.{rules}"
             print "use Rattle.agree.proofs.Seen.{seen, seenOf, stored, at}"
         }

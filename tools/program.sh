@@ -87,7 +87,8 @@ prove() {
     moving=
     : >"target/$crate.began"
     if [ -t 2 ]; then
-        progress "$crate" &
+        # without the lock of take_turn, which it would hold for a moment after the end
+        progress "$crate" 9>&- &
         moving=$!
         trap 'kill "$moving" 2>/dev/null' EXIT
         trap 'exit 2' HUP INT TERM
