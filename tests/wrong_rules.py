@@ -137,7 +137,7 @@ RULES = [
     (WRONG, 'range low2', 'Machine', 'leZ (negsuc 4095) (u .0)', 'leZ (negsuc 4094) (u .0)'),
     (WRONG, 'range high', 'Machine', 'leZ (u .0) (pos 4095)', 'leZ (u .0) (pos 4096)'),
     (WRONG, 'range high2', 'Machine', 'leZ (u .0) (pos 4095)', 'leZ (u .0) (pos 4094)'),
-    (WRONG, 'mode 0 in range', 'Machine', 'isMode k = eqb k none || setsMode k', 'isMode k = eqb k none || eqb k 0 || setsMode k'),
+    (WRONG, 'mode 0 out of range', 'Machine', 'eqb k none || setsMode k', 'eqb k none || leb 1 k && setsMode k'),
     (WRONG, 'among the first', 'Choice', 'among n (k ∷ ks) = eqb n k || among n ks', 'among n (k ∷ ks) = eqb n k'),
     (WRONG, 'status 3', 'Machine', 'statuses = 0 ∷ 1 ∷ 2 ∷ refusalNumbers', 'statuses = 0 ∷ 1 ∷ 2 ∷ 3 ∷ refusalNumbers'),
     (WRONG, 'status 28', 'Machine', '∷ 27 ∷ 32 ∷ []', '∷ 27 ∷ 28 ∷ 32 ∷ []'),
