@@ -1,14 +1,15 @@
 -- Laws of drawing one list of pixels after another: a bit, a turn of a loop, a row, and how many pixels are stored at most.
 use Prim.Native.Nat.{ℕ, zero, suc, _+_, _-_, _<_, _≤_}
-use mathlib.Core.Bool.{Bool, true, false, _&&_}
+use mathlib.Core.Bool.{Bool, true, false, _&&_, and-false}
 use mathlib.Core.Path.{_≡_, refl, sym, _∙_}
 use mathlib.Core.List.{List, [], _∷_}
+use mathlib.Core.Logic.{⊎-elim}
 use native.Mathlib.Omega.{arith}
 use native.Mathlib.Numerals.{add-one}
 use lib.ListN.{getD}
-use lib.IntN.{ℤ, pos, _+ℤ_}
+use lib.IntN.{ℤ, pos, negsuc, _+ℤ_}
 use lib.Signed.{leZ, ltZ}
-use Rattle.whole.specs.Parts.{whole, abs}
+use Rattle.whole.specs.Parts.{whole, abs, add}
 use Rattle.definition.specs.Choice.{pick}
 use Rattle.definition.specs.Units.{pixels, pixel}
 use Rattle.definition.specs.Image.{Shape, Pen, below, inField, inside, store, stores, left}
@@ -16,7 +17,7 @@ use Rattle.definition.specs.Characters.{isSet, gathered, rowPixels, cellPixels}
 use Rattle.definition.specs.declared.Pixels.{Pixels}
 use Rattle.definition.specs.declared.Pixel.{Pixel}
 use Rattle.definition.proofs.Exactly.{apart}
-use Rattle.definition.proofs.Plain.{both-true}
+use Rattle.definition.proofs.Plain.{both-true, either-true}
 use Rattle.definition.proofs.StoreLaws.{inside-append}
 use Rattle.units.specs.Answers.{indexIn}
 use Rattle.units.specs.declared.Index.{Index}
@@ -26,7 +27,7 @@ use Rattle.image.specs.Drawn.{drawn}
 use Rattle.image.proofs.DrawnLaws.{drawn-then}
 use Rattle.image.proofs.DrawnLaws.{drawn-few}
 use Rattle.image.proofs.CellCounts.{bit-few, row-few, cell-few}
-use Rattle.cells.specs.Cell.{dot, bitPixels, rowAt}
+use Rattle.cells.specs.Cell.{dot, aside, bitPixels, rowAt}
 
 -- ---- one list after another
 module _ (s : Shape) (pen : Pen) (im : List ℕ) where
@@ -75,19 +76,27 @@ module _ (s : Shape) (pen : Pen) (im : List ℕ) {r : ℕ} {im′ : List ℕ} wh
   cell-at-most corner cell d = omega (arith, drawn-few s pen im (cellPixels corner cell) d, cell-few corner cell)
 
 -- ---- what is outside
-none-inside : (s : Shape) (f : ℕ → List Pixel) → ((k : ℕ) → inside s (f k) ≡ []) → (k : ℕ) → inside s (gathered f k) ≡ []
+none-inside : (s : Shape) (f : ℕ → List Pixel) (n : ℕ) → ((k : ℕ) → k < n → inside s (f k) ≡ []) → inside s (gathered f n) ≡ []
 unfolding inside gathered
-none-inside s f h zero = refl
-none-inside s f h (suc k) = rw (inside-append s (gathered f k) (f k), none-inside s f h k) (h k)
+none-inside s f zero h = refl
+none-inside s f (suc n) h = rw (inside-append s (gathered f n) (f n), none-inside s f n (λ k l. h k (omega (arith, l)))) (h n (omega arith))
 
-beside : (s : Shape) (on : Bool) (x y : ℤ) → below (s .height) y ≡ false → inside s (pick on (pixel x y ∷ []) []) ≡ []
-unfolding inside inField
-beside s true x y e = rw e (go (below (s .width) x))
-  where
-    go : (t : Bool) → pick (t && false) (pixel x y ∷ []) [] ≡ []
-    go true = refl
-    go false = refl
-beside s false x y e = refl
+module _ (s : Shape) (on : Bool) (x y : ℤ) where
+  hidden : inField s (pixel x y) ≡ false → inside s (pick on (pixel x y ∷ []) []) ≡ []
+  unfolding inside
+  hidden e = go on
+    where
+      go : (t : Bool) → inside s (pick t (pixel x y ∷ []) []) ≡ []
+      go true = rw e
+      go false = refl
+
+  beside : below (s .height) y ≡ false → inside s (pick on (pixel x y ∷ []) []) ≡ []
+  unfolding inField
+  beside e = hidden (rw e (and-false (below (s .width) x)))
+
+  past : below (s .width) x ≡ false → inside s (pick on (pixel x y ∷ []) []) ≡ []
+  unfolding inField
+  past e = hidden (rw e)
 
 index-is : (n : ℕ) (p : Pixels) {i : ℕ} → indexIn n p ≡ At i → p .0 ≡ pos i
 index-is n p e =
@@ -144,7 +153,7 @@ module _ (s : Shape) (pen : Pen) (im : List ℕ) where
 
   row-beside : (x : ℤ) (y : Pixels) (row : ℕ) → below (s .height) (y .0) ≡ false → left 0 im ≡ drawn s pen im (rowPixels x (y .0) row)
   unfolding drawn stores rowPixels
-  row-beside x y row o = rw (none-inside s (bitPixels x (y .0) row) (λ k. beside s (isSet row k) (x +ℤ pos k) (y .0) o) 8)
+  row-beside x y row o = rw (none-inside s (bitPixels x (y .0) row) 8 (λ k _. beside s (isSet row k) (x +ℤ pos k) (y .0) o))
 
 -- ---- a turn of a cell's loop: the line of row i is drawn, has no bit set, or is above or below the field
 module _ (s : Shape) (pen : Pen) (im : List ℕ) (corner : Pixel) (cell : List ℕ) (i : ℕ) {n : ℕ} {im′ : List ℕ} (e : left n im′ ≡ drawn s pen im (gathered (rowAt corner cell) i)) where
@@ -157,6 +166,23 @@ module _ (s : Shape) (pen : Pen) (im : List ℕ) (corner : Pixel) (cell : List �
 
     pub cell-turn : {r : ℕ} {im″ : List ℕ} → left r im″ ≡ drawn s pen im′ (rowPixels (corner .x .0) (yr .0) (getD cell i 0)) → left (n + r) im″ ≡ drawn s pen im (gathered (rowAt corner cell) (i + 1))
     cell-turn d = drawn-turn s pen im (rowAt corner cell) i e (rw ey at d)
+
+-- ---- a cell right or left of the field
+aside-outside : (x : ℤ) (k : ℕ) → aside x ≡ true → k < 8 → below 512 (x +ℤ pos k) ≡ false
+unfolding aside
+aside-outside x k e h = ⊎-elim left-of right-of (either-true {s = ltZ x (negsuc 6)} {t = ltZ (pos 511) x} .0 e)
+  where
+    left-of : ltZ x (negsuc 6) ≡ true → below 512 (x +ℤ pos k) ≡ false
+    left-of t = let l : leZ (pos 0) (x +ℤ pos k) ≡ false = omega (whole, add x (pos k)) in rw l
+
+    right-of : ltZ (pos 511) x ≡ true → below 512 (x +ℤ pos k) ≡ false
+    right-of t = let r : ltZ (x +ℤ pos k) (pos 512) ≡ false = omega (whole, add x (pos k)) in simp (r, and-false)
+
+pub cell-aside : (s : Shape) (pen : Pen) (im : List ℕ) (corner : Pixel) (cell : List ℕ) {t : Bool} → s .width ≡ 512 → t ≡ aside (corner .x .0) → t ≡ true → left 0 im ≡ drawn s pen im (cellPixels corner cell)
+unfolding drawn stores cellPixels rowPixels
+cell-aside s pen im corner cell w e t =
+    rw (none-inside s (rowAt corner cell) 8 (λ r _. none-inside s (bitPixels (corner .x .0) (corner .y .0 +ℤ pos (7 - r)) (getD cell r 0)) 8
+    (λ k l. past s (isSet (getD cell r 0) k) (corner .x .0 +ℤ pos k) (corner .y .0 +ℤ pos (7 - r)) (rw w (aside-outside (corner .x .0) k (sym e ∙ t) l)))))
 
 -- ---- a cell by the indices of its corner
 pub cell-inside : (s : Shape) (pen : Pen) (im : List ℕ) (corner : Pixel) (cell : List ℕ) (n : ℕ) {gx gy : Index} {x y r : ℕ} {im′ : List ℕ}

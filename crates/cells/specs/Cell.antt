@@ -1,10 +1,10 @@
 -- What the drawing of a cell asks and draws: where its corner may be, the pixel of a bit, and the pixels of a row.
 use Prim.Native.Nat.{ℕ, _-_}
-use mathlib.Core.Bool.{Bool}
+use mathlib.Core.Bool.{Bool, _||_}
 use mathlib.Core.List.{List, [], _∷_}
 use lib.ListN.{getD}
 use lib.IntN.{ℤ, pos, negsuc, _+ℤ_}
-use lib.Signed.{_≤ℤ_}
+use lib.Signed.{_≤ℤ_, ltZ}
 use Rattle.definition.specs.Choice.{pick}
 use Rattle.definition.specs.Units.{pixel}
 use Rattle.definition.specs.Characters.{isSet, rowPixels}
@@ -15,6 +15,10 @@ use Rattle.definition.specs.declared.Pixel.{Pixel}
 pub record Near (p : Pixels) : Type 0 where
   pub low : negsuc 2047 ≤ℤ p .0
   pub high : p .0 ≤ℤ pos 2055
+
+-- whether a cell from this column on has none in the field
+unfoldable pub aside : ℤ → Bool
+aside x = ltZ x (negsuc 6) || ltZ (pos 511) x
 
 -- a set bit's pixel; a clear one has none
 unfoldable pub dot : Bool → Pixel → List Pixel

@@ -16,11 +16,16 @@ ghost use Rattle.definition.specs.Words.{isCode};
 ghost use Rattle.definition.specs.Characters.{setBytes, chosen, cellOf, isSet, rowPixels, cellPixels};
 ghost use Rattle.units.specs.Answers.{indexIn};
 ghost use Rattle.image.specs.Drawn.{drawn};
-ghost use Rattle.cells.specs.Cell.{Near, dot};
+ghost use Rattle.cells.specs.Cell.{Near, dot, aside};
 pub use set::BUILT_IN;
 
 // The last column, and the last line, from where a cell lies in the field from end to end.
 const LAST: usize = 504;
+
+// The first and the last column from where a cell has a column in the field.
+const BEFORE: i32 = -7;
+
+const BEHIND: i32 = 511;
 
 // Where no set is lent, the built-in one serves.
 fn choose<'a>(lent: &'a [u8], built: &'a [u8]) -> &'a [u8]
@@ -176,12 +181,25 @@ fn start_of(p: Pixels) -> Index
     Index::At(i)
 }
 
+// Whether no column of a cell is in the field: it lies right of it, or left.
+fn is_aside(x: Pixels) -> bool
+    ensures { λ r. ⌜ r ≡ aside (x .0) ⌝ }
+{
+    if x.0 < BEFORE {
+        return true;
+    }
+    BEHIND < x.0
+}
+
 // A cell by its lower left corner, the top row first: answers how many pixels were stored. Whether it lies in the field from end to end is asked once.
 pub fn draw(image: &mut [u8], cell: &[u8], corner: Pixel, ink: Ink) -> u32
     requires { ⌜ (length (now image) ≡ imageBytes) × (length (now cell) ≡ 8) × Near (corner .x) × Near (corner .y) × (ink .value < inkShape ink .base) ⌝ }
     ensures { λ r. ⌜ left r (now (image .exit)) ≡ drawn (inkShape ink) (inkPen ink) (now (image .entry)) (cellPixels corner (now (cell .entry))) ⌝ }
 {
     let Index::At(x) = start_of(corner.x) else {
+        if is_aside(corner.x) {
+            return 0;
+        }
         return plot_cell(image, cell, corner, ink);
     };
     let Index::At(y) = start_of(corner.y) else {

@@ -30,8 +30,8 @@ fn put_digit(byte: u8, k: usize, v: u8) -> u8
     ensures { λ r. ⌜ r ≡ putDigit 4 k byte v ⌝ }
 {
     let bit = 2 * k;
-    let old = (byte >> bit) % 4;
-    byte - (old << bit) + (v << bit)
+    let others = 255 - (3 << bit);
+    byte & others | v << bit
 }
 
 pub fn read(image: &[u8], x: usize, y: usize) -> u8

@@ -14,7 +14,7 @@ use Rattle.definition.specs.Machine.{withMode, ranged}
 use Rattle.definition.specs.declared.Machine.{Machine}
 use Rattle.definition.specs.declared.Ran.{Ran}
 use Rattle.definition.proofs.Exactly.{apart}
-use Rattle.numbers.specs.Numbers.{number, numbersOf, machineOf, flags, allRanged, spoilt, taken, given-back, ranOf}
+use Rattle.numbers.specs.Numbers.{number, numbersOf, machineOf, flags, allRanged, spoilt, taken, withFlags, given-back, ranOf}
 use Rattle.numbers.specs.declared.HostMachine.{HostMachine}
 
 -- ---- the flags: a law for each that is out of range, and one for all in range
@@ -98,9 +98,9 @@ module _ (m : HostMachine) where
 
   -- ---- what is given back
   module _ (n : Machine) where
-    pub left-alone : flags m ≡ false → m ≡ given-back m n
+    pub flags-as-given : flags m ≡ false → {r : HostMachine} → r ≡ numbersOf n → withFlags r m ≡ given-back m n
     unfolding given-back
-    left-alone e = rw e
+    flags-as-given e er = rw (e, er)
 
     pub in-numbers : flags m ≡ true → {r : HostMachine} → r ≡ numbersOf n → r ≡ given-back m n
     unfolding given-back
@@ -110,7 +110,7 @@ module _ (m : HostMachine) where
   unfolding given-back taken
   untouched = go (flags m) refl
     where
-      go : (t : Bool) → flags m ≡ t → pick t (numbersOf (pick t (machineOf m) (withMode (machineOf m) (m .mode) spoilt))) m ≡ m
+      go : (t : Bool) → flags m ≡ t → let n = pick t (machineOf m) (withMode (machineOf m) (m .mode) spoilt) in pick t (numbersOf n) (withFlags (numbersOf n) m) ≡ m
       go true e = numbers-back e
       go false e = refl
 

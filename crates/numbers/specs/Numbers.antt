@@ -38,9 +38,13 @@ spoilt = 255
 unfoldable pub taken : HostMachine → Machine
 taken m = pick (flags m) (machineOf m) (withMode (machineOf m) (m .mode) spoilt)
 
--- what a call left of the machine that it worked on, in numbers
+-- numbers with the pixel value and the flags of others
+abbrev pub withFlags : HostMachine → HostMachine → HostMachine
+withFlags k m = record { x = k .x; y = k .y; counter = k .counter; mode = k .mode; value = m .value; write = m .write; latch = m .latch; increment = k .increment; status = k .status }
+
+-- what a call left of the machine that it worked on, in numbers: where a flag was out of range, what `taken` made of the numbers is undone
 unfoldable pub given-back : HostMachine → Machine → HostMachine
-given-back m n = pick (flags m) (numbersOf n) m
+given-back m n = pick (flags m) (numbersOf n) (withFlags (numbersOf n) m)
 
 -- what a run or a step answered, in numbers
 unfoldable pub ranOf : HostMachine → Ran → HostRan

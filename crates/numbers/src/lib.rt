@@ -109,14 +109,17 @@ pub fn taken(m: HostMachine) -> Machine
     n
 }
 
-// What a call left of the machine that it worked on; of one with a flag out of range it left everything.
+// What a call left of the machine that it worked on. One with a flag out of range is refused: it gets back the value and the flags that it came with.
 pub fn given_back(m: HostMachine, n: Machine) -> HostMachine
     ensures { λ r. ⌜ r ≡ given-back m n ⌝ }
 {
+    let mut k = numbers_of(n);
     if !flags(m) {
-        return m;
+        k.value = m.value;
+        k.write = m.write;
+        k.latch = m.latch;
     }
-    numbers_of(n)
+    k
 }
 
 // What a run or a step answered, in numbers.

@@ -21,8 +21,7 @@ pub fn run(file: &[u16], m: Machine, image: &mut [u8], budget: u32, set: &[u8]) 
     let mut steps = 0;
     let mut words = 0;
     let mut stores = 0;
-    let mut left = budget;
-    while 0 < left {
+    while steps < budget {
         if here.status != 0 {
             break;
         }
@@ -31,7 +30,6 @@ pub fn run(file: &[u16], m: Machine, image: &mut [u8], budget: u32, set: &[u8]) 
         steps += taken.counts.steps;
         words += taken.counts.words;
         stores += taken.counts.stores;
-        left -= 1;
     }
     Ran {
         answer: here.status,

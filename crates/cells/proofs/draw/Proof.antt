@@ -1,7 +1,7 @@
-use mathlib.Core.Path.{sym, _∙_}
+use mathlib.Core.Path.{sym, refl, _∙_}
 use native.Mathlib.Omega.{arith}
 use Rattle.units.proofs.AnswerLaws.{index-below}
-use Rattle.cells.proofs.DrawLaws.{cell-inside}
+use Rattle.cells.proofs.DrawLaws.{cell-aside, cell-inside}
 use borrow.Author.Needs.{needs}
 use Rattle.cells.proofs.draw.Statement.{statement}
 use Rattle.cells.proofs.draw.Tie as tie
@@ -15,14 +15,20 @@ enum-known-x c = search needs
 enum-told : tie.Need-enum-told
 enum-told c = search needs
 
+is-aside-requires : tie.Need-is-aside-requires
+is-aside-requires c κs = search needs
+
+returns : tie.Need-returns
+returns c = cell-aside _ _ _ _ _ refl (c .before .is-aside .ensures) (c .if1 .taken)
+
 plot-cell-requires : tie.Need-plot-cell-requires
 plot-cell-requires c κs = search needs
 
 same-length : tie.Need-same-length
 same-length c = search needs
 
-returns : tie.Need-returns
-returns c = search needs
+returns-2 : tie.Need-returns-2
+returns-2 c = search needs
 
 start-of-requires-2 : tie.Need-start-of-requires-2
 start-of-requires-2 c κs = search needs
@@ -39,8 +45,8 @@ plot-cell-requires-2 c κs = search needs
 same-length-2 : tie.Need-same-length-2
 same-length-2 c = search needs
 
-returns-2 : tie.Need-returns-2
-returns-2 c = search needs
+returns-3 : tie.Need-returns-3
+returns-3 c = search needs
 
 store-cell-requires : tie.Need-store-cell-requires
 store-cell-requires c κs =
@@ -56,8 +62,8 @@ store-cell-requires c κs =
 same-length-3 : tie.Need-same-length-3
 same-length-3 c = search needs
 
-returns-3 : tie.Need-returns-3
-returns-3 c =
+returns-4 : tie.Need-returns-4
+returns-4 c =
     let p = c .before .before in
     let y = p .before .before .before in
     let gy = y .before .before in
@@ -73,15 +79,17 @@ draw-spec =
     start-of-requires
     enum-known-x
     enum-told
+    is-aside-requires
+    returns
     plot-cell-requires
     same-length
-    returns
+    returns-2
     start-of-requires-2
     enum-known-y
     enum-told-2
     plot-cell-requires-2
     same-length-2
-    returns-2
+    returns-3
     store-cell-requires
     same-length-3
-    returns-3)
+    returns-4)
