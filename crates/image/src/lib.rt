@@ -30,7 +30,7 @@ fn put_digit(byte: u8, k: usize, v: u8) -> u8
     ensures { λ r. ⌜ r ≡ putDigit 4 k byte v ⌝ }
 {
     let bit = 2 * k;
-    let others = 255 - (3 << bit);
+    let others: u8 = 255 - (3 << bit);
     byte & others | v << bit
 }
 
