@@ -22,10 +22,10 @@ pub use set::BUILT_IN;
 // The last column, and the last line, from where a cell lies in the field from end to end.
 const LAST: usize = 504;
 
-// The first and the last column from where a cell has a column in the field.
-const BEFORE: i32 = -7;
+// The leftmost and the rightmost column from where a cell has one in the field.
+const LEFTMOST: i32 = -7;
 
-const BEHIND: i32 = 511;
+const RIGHTMOST: i32 = 511;
 
 // Where no set is lent, the built-in one serves.
 fn choose<'a>(lent: &'a [u8], built: &'a [u8]) -> &'a [u8]
@@ -185,10 +185,10 @@ fn start_of(p: Pixels) -> Index
 fn is_aside(x: Pixels) -> bool
     ensures { λ r. ⌜ r ≡ aside (x .0) ⌝ }
 {
-    if x.0 < BEFORE {
+    if x.0 < LEFTMOST {
         return true;
     }
-    BEHIND < x.0
+    RIGHTMOST < x.0
 }
 
 // A cell by its lower left corner, the top row first: answers how many pixels were stored. Whether it lies in the field from end to end is asked once.

@@ -21,6 +21,7 @@ pub fn run(file: &[u16], m: Machine, image: &mut [u8], budget: u32, set: &[u8]) 
     let mut steps = 0;
     let mut words = 0;
     let mut stores = 0;
+    // A refused step is not counted; its status ends the run.
     while steps < budget {
         if here.status != 0 {
             break;
