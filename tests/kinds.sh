@@ -73,6 +73,7 @@ items::grown Units 1
 letters::characters Units 1
 letters::past Units 1 opens 1
 cells::further Pixels 1 opens 1
+cells::is_aside opens 2
 # a host's numbers: X and Y of its machine are units, those of the pixel that it reads are pixels
 numbers::machine_of Units 2
 numbers::numbers_of opens 2
