@@ -1,5 +1,5 @@
 -- A digit of a byte in base four, by shifts: digit k stands at bit 2k.
-use Prim.Native.Nat.{ℕ, zero, suc, _+_, _-_, _*_, _/_, _%_, _^_, _<_, _≤_}
+use Prim.Native.Nat.{ℕ, zero, suc, _+_, _-_, _*_, _/_, _%_, _^_, _<_}
 use mathlib.Core.Path.{_≡_, _∙_}
 use native.Mathlib.Omega.{arith}
 use lib.Bits.{bitAnd, bitOr, and-high, and-shr, and-mod, and-mask, or-block, or-shifted, or-zero-r}

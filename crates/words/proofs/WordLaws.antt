@@ -2,7 +2,7 @@
 use Prim.Native.Nat.{ℕ, _<_, _≤_}
 use mathlib.Core.Bool.{Bool, true, false, not}
 use mathlib.Core.Path.{_≡_, refl}
-use lib.Dec.{leb, eqb}
+use lib.Dec.{leb}
 use borrow.Author.Tests.{eq-eqb, ne-eqb, le-leb, lt-leb, not-true, not-false}
 use Rattle.definition.specs.Choice.{firstOf}
 use Rattle.definition.specs.Words.{bits, bit, code, setsMode, notBuilt, order, move, shortX, shortY, long, coordinate, firstCode, secondCode, none, item, decode, isCode, firstRefusals, secondRefusals}
