@@ -59,6 +59,8 @@ units::pixels_of Pixels 1 opens 1
 # units of bits, moved, and asked for their range; an index of a pixel
 units::move_of Units 2
 units::moved_to Units 1 opens 2
+units::may_move opens 2
+units::moved_by Units 1 opens 2
 units::in_range opens 1
 units::index_in opens 1
 # pixels of a vector, of its two end pixels
@@ -68,10 +70,10 @@ vector::rounded Pixels 1
 # position (0, 0); the increment, which is in units
 still::fresh Units 2
 line::refused Units 2
-items::grown Units 1
+items::increment_of Units 1
 # the advance of a character, which is in units; the pixels of a cell, from its corner
 letters::characters Units 1
-letters::past Units 1 opens 1
+letters::both Units 1
 cells::further Pixels 1 opens 1
 cells::is_aside opens 2
 # a host's numbers: X and Y of its machine are units, those of the pixel that it reads are pixels

@@ -2,12 +2,14 @@
 use Prim.Native.Nat.{ℕ, _-_}
 use mathlib.Core.Bool.{Bool, _||_}
 use mathlib.Core.List.{List, [], _∷_}
-use lib.ListN.{getD}
+use mathlib.Core.Path.{_≡_}
+use lib.ListN.{length, getD}
 use lib.IntN.{ℤ, pos, negsuc, _+ℤ_}
 use lib.Signed.{_≤ℤ_, ltZ}
 use Rattle.definition.specs.Choice.{pick}
 use Rattle.definition.specs.Units.{pixel}
-use Rattle.definition.specs.Characters.{isSet, rowPixels}
+use Rattle.definition.specs.BuiltIn.{builtIn}
+use Rattle.definition.specs.Characters.{setBytes, chosen, isSet, rowPixels}
 use Rattle.definition.specs.declared.Pixels.{Pixels}
 use Rattle.definition.specs.declared.Pixel.{Pixel}
 
@@ -15,6 +17,10 @@ use Rattle.definition.specs.declared.Pixel.{Pixel}
 pub record Near (p : Pixels) : Type 0 where
   pub low : negsuc 2047 ≤ℤ p .0
   pub high : p .0 ≤ℤ pos 2055
+
+-- of the set that is lent and the one that is built in, either the set that serves or none yet: the built-in one is laid out only where it is needed
+abbrev pub Serves : List ℕ → List ℕ → Type 0
+Serves lent built = (length (chosen lent builtIn) ≡ setBytes) × ((length (chosen lent built) ≡ 0 → ⊥) → chosen lent built ≡ chosen lent builtIn)
 
 -- whether a cell from this column on has none in the field
 unfoldable pub aside : ℤ → Bool

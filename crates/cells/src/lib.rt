@@ -8,6 +8,7 @@ use units::Index;
 ghost use mathlib.Core.Path.{_≡_};
 ghost use mathlib.Core.Bool.{true};
 ghost use Prim.Native.Nat.{_+_, _<_};
+ghost use lib.Dec.{eqb};
 ghost use lib.IntN.{pos, _+ℤ_};
 ghost use lib.ListN.{length};
 ghost use Rattle.definition.specs.Units.{pixels, pixel};
@@ -35,6 +36,14 @@ fn choose<'a>(lent: &'a [u8], built: &'a [u8]) -> &'a [u8]
         return built;
     }
     lent
+}
+
+// Whether no set is there yet: none is lent, and the built-in one is not laid out.
+pub fn is_none<'a>(lent: &'a [u8], built: &'a [u8]) -> bool
+    ensures { λ r. ⌜ r ≡ eqb (length (chosen (now (lent .entry)) (now (built .entry)))) 0 ⌝ }
+{
+    let set = choose(lent, built);
+    set.len() == 0
 }
 
 fn cell_at(set: &[u8], code: u8) -> &[u8]

@@ -55,7 +55,7 @@ pub fn step(file: &[u16], m: Machine, image: &mut [u8], set: &[u8]) -> Ran
     if also != 0 {
         return turned_away(m, also);
     }
-    run::run(file, m, image, 1, set)
+    run::one(file, m, image, set)
 }
 
 // The set is the host's own characters, 760 bytes, or empty: then the built-in set serves.

@@ -5,12 +5,12 @@ use mathlib.Core.Path.{_≡_, refl, sym, ap, _∙_}
 use mathlib.Core.List.{List, [], _∷_}
 use mathlib.Core.Logic.{_⊎_}
 use native.Mathlib.Omega.{arith}
-use lib.IntN.{ℤ, pos}
+use lib.IntN.{pos}
 use mir.Syntax.{w32}
 use mir.Val.{toZ}
 use mir.Facts.{toZ-pos}
 use borrow.Author.Tests.{not-true, not-false}
-use Rattle.definition.specs.Units.{units}
+use Rattle.definition.specs.Units.{units, moved}
 use Rattle.definition.specs.Image.{Left, left, square, pixelAt, inkShape, inkPen, stores}
 use Rattle.definition.specs.Vector.{vector}
 use Rattle.definition.specs.Machine.{inkOf, inRange}
@@ -42,9 +42,23 @@ module _ (u by : Units) {got : Moved} (e : got ≡ movedTo u by) where
   pub move-leaves : got ≡ Out → leaves u (Move by) ≡ true
   move-leaves o = rw (moved-out u by (sym e ∙ o))
 
+-- the same for a move whose range was asked first
+module _ (u by : Units) {d : Units} (e : d ≡ by) {on : Bool} (a : on ≡ inRange (moved u d)) where
+  asked : inRange (moved u by) ≡ on
+  asked = ap (λ (v : Units). inRange (moved u v)) (sym e) ∙ sym a
+
+  pub may-lead : {v : Units} → not on ≡ false → v ≡ moved u d → Leads u (Move by) v
+  may-lead t ev =
+      let w : inRange (moved u by) ≡ true = asked ∙ not-false on t in
+      let to = ap (moved u) (sym e) ∙ sym ev in
+      record { stays = rw w; to = to; within = rw (← to) w }
+
+  pub may-not : not on ≡ true → leaves u (Move by) ≡ true
+  may-not t = rw (asked ∙ not-true on t)
+
 -- the increment, as the machine's signed number
-pub by-increment : (u : Units) (n : ℕ) {got : Moved} → n < 256 → got ≡ movedTo u (units (toZ w32 n)) → got ≡ movedTo u (units (pos n))
-by-increment u n h e = let r : toZ w32 n ≡ pos n = toZ-pos w32 (omega arith) in e ∙ ap (λ (z : ℤ). movedTo u (units z)) r
+pub by-increment : (n : ℕ) → n < 256 → units (toZ w32 n) ≡ units (pos n)
+by-increment n h = ap units (toZ-pos w32 (omega arith))
 
 -- ---- what is lit
 module _ (m : Machine) (lit : Bool) (im : List ℕ) {on : Bool} (e : on ≡ lit && m .write) where

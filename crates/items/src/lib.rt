@@ -14,7 +14,6 @@ ghost use Rattle.definition.specs.Image.{imageBytes, left};
 ghost use Rattle.definition.specs.Machine.{inkOf, shapeOf, inRange, ranged};
 ghost use Rattle.definition.specs.Step.{way, pointAt, vectorBy};
 ghost use Rattle.definition.specs.Step.Change.{Set, Move};
-ghost use Rattle.units.specs.Answers.{movedTo};
 ghost use Rattle.outcome.specs.Outcome.{stepped};
 ghost use Rattle.items.specs.Goes.{vectorTo, lights, goes};
 ghost use Rattle.items.specs.Ends.{Ends};
@@ -115,11 +114,11 @@ pub fn absolute_point(m: Machine, image: &mut [u8], lit: bool, x: Units, y: Unit
     outcome::placed(m, true, x, y, point(m, image, lit, x, y))
 }
 
-// A coordinate that grows by the increment.
-fn grown(u: Units, increment: u8) -> Moved
-    ensures { λ r. ⌜ r ≡ movedTo u (units (pos increment)) ⌝ }
+// By how much a graph steps.
+fn increment_of(m: Machine) -> Units
+    ensures { λ r. ⌜ r ≡ units (pos (m .increment)) ⌝ }
 {
-    units::moved_to(u, Units(increment as i32))
+    Units(m.increment as i32)
 }
 
 // Plots at the Y that it finds, and only then raises Y by the increment.
@@ -127,9 +126,11 @@ pub fn graph_x(m: Machine, image: &mut [u8], lit: bool, x: Units) -> Stepped
     requires { ⌜ (length (now image) ≡ imageBytes) × (ranged m ≡ true) × (inRange x ≡ true) ⌝ }
     ensures { λ r. ⌜ left r (now (image .exit)) ≡ stepped m (now (image .entry)) (goes m lit (way (Set x) (Move (units (pos (m .increment))))) (pointAt m x (m .y)) false) ⌝ }
 {
-    let Moved::To(y) = grown(m.y, m.increment) else {
+    let by = increment_of(m);
+    if !units::may_move(m.y, by) {
         return outcome::refused(m, 27);
-    };
+    }
+    let y = units::moved_by(m.y, by);
     let stores = point(m, image, lit, x, m.y);
     outcome::placed(m, false, x, y, stores)
 }
@@ -139,9 +140,11 @@ pub fn graph_y(m: Machine, image: &mut [u8], lit: bool, y: Units) -> Stepped
     requires { ⌜ (length (now image) ≡ imageBytes) × (ranged m ≡ true) × (inRange y ≡ true) ⌝ }
     ensures { λ r. ⌜ left r (now (image .exit)) ≡ stepped m (now (image .entry)) (goes m lit (way (Move (units (pos (m .increment)))) (Set y)) (pointAt m (m .x) y) false) ⌝ }
 {
-    let Moved::To(x) = grown(m.x, m.increment) else {
+    let by = increment_of(m);
+    if !units::may_move(m.x, by) {
         return outcome::refused(m, 27);
-    };
+    }
+    let x = units::moved_by(m.x, by);
     let stores = point(m, image, lit, m.x, y);
     outcome::placed(m, false, x, y, stores)
 }

@@ -14,7 +14,7 @@ use Rattle.definition.specs.Image.{left, stores}
 use Rattle.definition.specs.File.{wordIn, numberOf, numberIn, fetchRefusals}
 use Rattle.definition.specs.Words.{bit, bits, long, coordinate, firstCode, secondCode, item, isLit, decode, jumps, paired, isCode, firstRefusals, secondRefusals}
 use Rattle.definition.specs.Machine.{withCounter, inRange}
-use Rattle.definition.specs.Step.{way, pointAt, vectorBy, leaves, itemWay, itemPixels, ordered, done, Given, first, second, wayRefusals, refusals, refusal, Step, completes, refuses, step}
+use Rattle.definition.specs.Step.{way, pointAt, vectorBy, leaves, itemWay, itemPixels, ordered, done, Given, first, second, instruction, wayRefusals, refusals, refusal, Step, completes, refuses, step}
 use Rattle.definition.specs.Step.Change.{Set, Move}
 use Rattle.definition.specs.Calls.{lending, plain, given}
 use Rattle.definition.specs.declared.Units.{Units}
@@ -32,13 +32,14 @@ use Rattle.definition.specs.declared.Instruction.the-variants.{Does, Draws}
 use Rattle.definition.proofs.Exactly.{apart, passes, stops, fails}
 use Rattle.definition.proofs.Plain.{not-false, both-true, is-mostZ}
 use Rattle.definition.proofs.StepLaws.{pick-keeps}
-use Rattle.outcome.specs.Outcome.{told, stepped, completed}
+use Rattle.outcome.specs.Outcome.{told, stepped, putOff, completed}
 use Rattle.outcome.specs.declared.Stepped.{Stepped}
+use Rattle.outcome.proofs.PutOffLaws.{refused-now}
 use Rattle.items.specs.Goes.{kept, placed, goes}
 use Rattle.machine.specs.declared.Second.{Second}
 use Rattle.machine.specs.declared.Second.the-variants.{Taken, Turned}
 use Rattle.machine.specs.Seconds.{Seconds}
-use Rattle.machine.specs.Rest.{Drawable, restRefusals, rest, passedBy}
+use Rattle.machine.specs.Rest.{Drawable, restRefusals, rest, drawsLetters, later, laterStep, passedBy}
 
 -- a step that lights no pixel leaves the image
 dark : (m : Machine) (im : List ℕ) {t s : Step} {r : Stepped} → t .pixels ≡ [] → r ≡ told t → t ≡ s → left r im ≡ stepped m im s
@@ -102,20 +103,33 @@ one-word g m lit it p =
     ap (goes m lit (itemWay (m .increment) it (wordIn (second g m))) (itemPixels g m it (wordIn (second g m)))) (sym p)
     ∙ item-goes g m lit it (rw p)
 
-module _ (g : Given) (m : Machine) (im : List ℕ) (lit : Bool) (it : Item) {it′ : Item} (e : it ≡ it′) {r : Stepped} {im′ : List ℕ} where
-  pub one-done : paired it′ ≡ false
-      → left r im′ ≡ stepped m im (goes m lit (itemWay (m .increment) it′ (wordIn (second g m))) (itemPixels g m it′ (wordIn (second g m))) false)
-      → left r im′ ≡ stepped m im (rest g m (Draws lit it))
-  one-done p er = rw e (er ∙ ap (stepped m im) (one-word g m lit it′ p))
+-- what draws no characters is not put off
+now : (set : List ℕ) (m : Machine) (i : Instruction) (t : Step) → drawsLetters i ≡ false → later set m i t ≡ t
+unfolding putOff
+now set m i t n = ap (λ (b : Bool). putOff b set m t) n
 
-  pub two-done : (h : Given) → rest h m (Draws lit it′) ≡ rest g m (Draws lit it′) → left r im′ ≡ stepped m im (rest h m (Draws lit it′)) → left r im′ ≡ stepped m im (rest g m (Draws lit it))
-  two-done h same er = rw e (er ∙ ap (stepped m im) same)
+module _ (set : List ℕ) (g : Given) (m : Machine) (im : List ℕ) (lit : Bool) (it : Item) {it′ : Item} (e : it ≡ it′) {r : Stepped} {im′ : List ℕ} where
+  pub two-done : (h : Given) → rest h m (Draws lit it′) ≡ rest g m (Draws lit it′) → drawsLetters (Draws lit it′) ≡ false
+      → left r im′ ≡ stepped m im (rest h m (Draws lit it′)) → left r im′ ≡ stepped m im (later set m (Draws lit it) (rest g m (Draws lit it)))
+  two-done h same n er =
+      er
+      ∙ ap (stepped m im) (same ∙ sym (now set m (Draws lit it′) (rest g m (Draws lit it′)) n))
+      ∙ ap (λ (i : Item). stepped m im (later set m (Draws lit i) (rest g m (Draws lit i)))) (sym e)
+
+  pub one-done : paired it′ ≡ false → drawsLetters (Draws lit it′) ≡ false
+      → left r im′ ≡ stepped m im (goes m lit (itemWay (m .increment) it′ (wordIn (second g m))) (itemPixels g m it′ (wordIn (second g m))) false)
+      → left r im′ ≡ stepped m im (later set m (Draws lit it) (rest g m (Draws lit it)))
+  one-done p n er = two-done g refl n (er ∙ ap (stepped m im) (one-word g m lit it′ p))
 
 -- characters, which are lit
-module _ (g : Given) (m : Machine) (im : List ℕ) (lit : Bool) (it : Item) {first second : ℕ} (e : it ≡ Characters first second) (fine : Drawable lit (Characters first second)) {r : Stepped} {im′ : List ℕ} where
-  pub characters-done : left r im′ ≡ stepped m im (goes m true (itemWay (m .increment) (Characters first second) 0) (itemPixels g m (Characters first second) 0) false)
-      → left r im′ ≡ stepped m im (rest g m (Draws lit it))
-  characters-done er = one-done g m im lit it e refl (rw (fine .0) er)
+module _ (set : List ℕ) (g : Given) (m : Machine) (im : List ℕ) (lit : Bool) (it : Item) {first second : ℕ} (e : it ≡ Characters first second) (fine : Drawable lit (Characters first second)) {r : Stepped} {im′ : List ℕ} where
+  pub characters-done : left r im′ ≡ stepped m im (putOff true set m (goes m true (itemWay (m .increment) (Characters first second) 0) (itemPixels g m (Characters first second) 0) false))
+      → left r im′ ≡ stepped m im (later set m (Draws lit it) (rest g m (Draws lit it)))
+  characters-done er =
+      er
+      ∙ ap (λ (l : Bool). stepped m im (putOff true set m (goes m l (itemWay (m .increment) (Characters first second) 0) (itemPixels g m (Characters first second) 0) false))) (sym (fine .0))
+      ∙ ap (λ (t : Step). stepped m im (putOff true set m t)) (one-word g m lit (Characters first second) refl)
+      ∙ ap (λ (i : Item). stepped m im (later set m (Draws lit i) (rest g m (Draws lit i)))) (sym e)
 
 -- ---- what does not depend on the lent set: an order, and an item of two words
 module _ (f set : List ℕ) (m : Machine) where
@@ -250,10 +264,16 @@ module _ (mode w : ℕ) (z : firstOf (firstRefusals mode w) ≡ 0) where
       P (Draws lit it) = Drawable lit it
 
 -- ---- the step, from its first word on
-module _ (g : Given) (m : Machine) {got : Fetched} (eg : got ≡ first g m) where
-  pub not-fetched : (im : List ℕ) {why : Unfetched} {n : ℕ} → got ≡ Refused why → n ≡ numberIn got → {r : Stepped} → r ≡ told (refuses m n) → left r im ≡ stepped m im (step g m)
+module _ (set : List ℕ) (g : Given) (m : Machine) {got : Fetched} (eg : got ≡ first g m) where
+  -- a refused step is not put off
+  refused-at : (im : List ℕ) (n : ℕ) → refusal g m ≡ n → (n ≡ 0 → ⊥) → {r : Stepped} → r ≡ told (refuses m n) → left r im ≡ stepped m im (laterStep set g m)
+  refused-at im n e h er =
+      let s = step-for g m n e h in
+      dark m im refl er (s ∙ sym (refused-now (drawsLetters (instruction g m)) set m (step g m) (ap (λ (t : Step). t .steps) (sym s))))
+
+  pub not-fetched : (im : List ℕ) {why : Unfetched} {n : ℕ} → got ≡ Refused why → n ≡ numberIn got → {r : Stepped} → r ≡ told (refuses m n) → left r im ≡ stepped m im (laterStep set g m)
   unfolding refusal refusals
-  not-fetched im {why} {n} e en er = dark m im refl er (step-for g m n (stopped eg e en _) (not-zero eg e en))
+  not-fetched im {why} {n} e en er = refused-at im n (stopped eg e en _) (not-zero eg e en) er
 
   module _ {w : ℕ} (e : got ≡ Word w) {why : ℕ} (ew : why ≡ firstOf (firstRefusals (m .mode) w)) where
     is-word : wordIn (first g m) ≡ w
@@ -265,8 +285,8 @@ module _ (g : Given) (m : Machine) {got : Fetched} (eg : got ≡ first g m) wher
         passes (fetchRefusals (first g m)) _ refl (ap (λ (f : Fetched). firstOf (fetchRefusals f)) (sym eg ∙ e) ∙ fetch-number (Word w))
         ∙ ap (λ (v : ℕ). firstOf (firstRefusals (m .mode) v ++ restRefusals m (decode (m .mode) v) (second g m))) is-word
 
-    pub word-refused : (im : List ℕ) → (why ≡ 0 → ⊥) → {r : Stepped} → r ≡ told (refuses m why) → left r im ≡ stepped m im (step g m)
-    word-refused im h er = dark m im refl er (step-for g m why (past-fetch ∙ stops (firstRefusals (m .mode) w) _ (λ q. h (ew ∙ q)) ∙ sym ew) h)
+    pub word-refused : (im : List ℕ) → (why ≡ 0 → ⊥) → {r : Stepped} → r ≡ told (refuses m why) → left r im ≡ stepped m im (laterStep set g m)
+    word-refused im h er = refused-at im why (past-fetch ∙ stops (firstRefusals (m .mode) w) _ (λ q. h (ew ∙ q)) ∙ sym ew) h er
 
     word-taken : why ≡ 0 → rest g m (decode (m .mode) w) ≡ step g m
     unfolding step rest firstRefusals
@@ -275,11 +295,15 @@ module _ (g : Given) (m : Machine) {got : Fetched} (eg : got ≡ first g m) wher
         rw (r, is-word)
 
     module _ (z : why ≡ 0) {i : Instruction} (ei : i ≡ decode (m .mode) w) (im : List ℕ) where
-      taken : {i′ : Instruction} → i ≡ i′ → rest g m i′ ≡ step g m
-      taken e′ = ap (rest g m) (sym e′ ∙ ei) ∙ word-taken z
+      taken : {i′ : Instruction} → i ≡ i′ → later set m i′ (rest g m i′) ≡ laterStep set g m
+      taken e′ =
+          ap (λ (j : Instruction). later set m j (rest g m j)) (sym e′ ∙ ei)
+          ∙ ap (λ (t : Step). later set m (decode (m .mode) w) t) (word-taken z)
+          ∙ ap (λ (v : ℕ). later set m (decode (m .mode) v) (step g m)) (sym is-word)
 
-      pub done-order : {o : Order} → i ≡ Does o → (h : Given) → rest h m (Does o) ≡ rest g m (Does o) → {r : Stepped} → r ≡ told (rest h m (Does o)) → left r im ≡ stepped m im (step g m)
-      done-order {o} e′ h same er = dark m im (order-dark h m o) er (same ∙ taken e′)
+      pub done-order : {o : Order} → i ≡ Does o → (h : Given) → rest h m (Does o) ≡ rest g m (Does o) → {r : Stepped} → r ≡ told (rest h m (Does o)) → left r im ≡ stepped m im (laterStep set g m)
+      done-order {o} e′ h same er = dark m im (order-dark h m o) er (same ∙ sym (now set m (Does o) (rest g m (Does o)) refl) ∙ taken e′)
 
-      pub done-item : {lit : Bool} {it : Item} → i ≡ Draws lit it → {r : Stepped} {im′ : List ℕ} → left r im′ ≡ stepped m im (rest g m (Draws lit it)) → left r im′ ≡ stepped m im (step g m)
+      pub done-item : {lit : Bool} {it : Item} → i ≡ Draws lit it → {r : Stepped} {im′ : List ℕ} → left r im′ ≡ stepped m im (later set m (Draws lit it) (rest g m (Draws lit it)))
+          → left r im′ ≡ stepped m im (laterStep set g m)
       done-item e′ er = er ∙ ap (stepped m im) (taken e′)

@@ -11,15 +11,15 @@ ghost use mathlib.Core.Bool.{true};
 ghost use lib.ListN.{length};
 ghost use Rattle.definition.specs.Image.{imageBytes, left};
 ghost use Rattle.definition.specs.Machine.{inRange, ranged};
-ghost use Rattle.definition.specs.Step.{second, step};
-ghost use Rattle.definition.specs.BuiltIn.{builtIn};
-ghost use Rattle.definition.specs.Characters.{setBytes, chosen};
+ghost use Rattle.definition.specs.Step.{second};
+ghost use Rattle.definition.specs.Characters.{chosen};
 ghost use Rattle.definition.specs.Calls.{lending, plain, given};
 ghost use Rattle.definition.specs.declared.Order.the-variants.{Jump};
 ghost use Rattle.definition.specs.declared.Item.the-variants.{LongVector, AbsolutePoint};
 ghost use Rattle.definition.specs.declared.Instruction.the-variants.{Does, Draws};
+ghost use Rattle.cells.specs.Cell.{Serves};
 ghost use Rattle.outcome.specs.Outcome.{told, stepped};
-ghost use Rattle.machine.specs.Rest.{Drawable, rest, passedBy};
+ghost use Rattle.machine.specs.Rest.{Drawable, rest, later, laterStep, passedBy};
 ghost use Rattle.machine.specs.Seconds.{Seconds};
 
 // What stands after the word at the counter.
@@ -104,9 +104,17 @@ fn absolute_point(file: &[u16], m: Machine, image: &mut [u8], lit: bool, x: Unit
     }
 }
 
-fn draws(file: &[u16], m: Machine, image: &mut [u8], set: &[u8], lit: bool, item: Item) -> Stepped
-    requires { ⌜ (length (now image) ≡ imageBytes) × (ranged m ≡ true) × (length (chosen (now set) builtIn) ≡ setBytes) × Drawable lit item ⌝ }
-    ensures { λ r. ⌜ left r (now (image .exit)) ≡ stepped m (now (image .entry)) (rest (given (lending (now (file .entry)) (now (set .entry)))) m (Draws lit item)) ⌝ }
+fn draws<'a>(
+    file: &[u16],
+    m: Machine,
+    image: &mut [u8],
+    lent: &'a [u8],
+    built: &'a [u8],
+    lit: bool,
+    item: Item,
+) -> Stepped
+    requires { ⌜ (length (now image) ≡ imageBytes) × (ranged m ≡ true) × Serves (now lent) (now built) × Drawable lit item ⌝ }
+    ensures { λ r. ⌜ left r (now (image .exit)) ≡ stepped m (now (image .entry)) (later (chosen (now (lent .entry)) (now (built .entry))) m (Draws lit item) (rest (given (lending (now (file .entry)) (now (lent .entry)))) m (Draws lit item))) ⌝ }
 {
     match item {
         Item::ShortVector { x, y } => items::vector_by(m, image, lit, x, y, false),
@@ -115,14 +123,28 @@ fn draws(file: &[u16], m: Machine, image: &mut [u8], set: &[u8], lit: bool, item
         Item::GraphX { x } => items::graph_x(m, image, lit, x),
         Item::GraphY { y } => items::graph_y(m, image, lit, y),
         Item::RelativePoint { x, y } => items::relative_point(m, image, lit, x, y),
-        Item::Characters { first, second } => letters::characters(m, image, set, first, second),
+        Item::Characters { first, second } => letters::characters(
+            m,
+            image,
+            lent,
+            built,
+            first,
+            second,
+        ),
     }
 }
 
-// What refuses it, in order: 21 to 23 for the first word, 24, 25 or 32, 22 or 23 for the second, 26, 27.
-pub fn step(file: &[u16], m: Machine, image: &mut [u8], set: &[u8]) -> Stepped
-    requires { ⌜ (length (now image) ≡ imageBytes) × (ranged m ≡ true) × (length (chosen (now set) builtIn) ≡ setBytes) ⌝ }
-    ensures { λ r. ⌜ left r (now (image .exit)) ≡ stepped m (now (image .entry)) (step (given (lending (now (file .entry)) (now (set .entry)))) m) ⌝ }
+// What refuses it, in order: 21 to 23 for the first word, 24, 25 or 32, 22 or 23 for the second, 26, 27. The lent set serves, or where it is empty the built-in
+// one. While both are empty, a step that would draw characters is put off.
+pub fn step<'a>(
+    file: &[u16],
+    m: Machine,
+    image: &mut [u8],
+    lent: &'a [u8],
+    built: &'a [u8],
+) -> Stepped
+    requires { ⌜ (length (now image) ≡ imageBytes) × (ranged m ≡ true) × Serves (now lent) (now built) ⌝ }
+    ensures { λ r. ⌜ left r (now (image .exit)) ≡ stepped m (now (image .entry)) (laterStep (chosen (now (lent .entry)) (now (built .entry))) (given (lending (now (file .entry)) (now (lent .entry)))) m) ⌝ }
 {
     let got = file::fetch(file, m.counter);
     let Fetched::Word(word) = got else {
@@ -134,6 +156,6 @@ pub fn step(file: &[u16], m: Machine, image: &mut [u8], set: &[u8]) -> Stepped
     }
     match words::decode(m.mode, word) {
         Instruction::Does(order) => does(file, m, order),
-        Instruction::Draws { lit, item } => draws(file, m, image, set, lit, item),
+        Instruction::Draws { lit, item } => draws(file, m, image, lent, built, lit, item),
     }
 }

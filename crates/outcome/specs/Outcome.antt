@@ -1,11 +1,13 @@
 -- What a step comes to in code: the machine and the counts that it answers, and the image that it leaves.
 use Prim.Native.Nat.{ℕ}
-use mathlib.Core.Bool.{Bool}
+use mathlib.Core.Bool.{Bool, _&&_}
 use mathlib.Core.List.{List}
+use lib.Dec.{eqb}
+use lib.ListN.{length}
 use Rattle.definition.specs.Choice.{pick}
 use Rattle.definition.specs.Image.{Left, left, stores}
 use Rattle.definition.specs.Machine.{past, withCounter, withPosition, shapeOf, penOf}
-use Rattle.definition.specs.Step.{Step}
+use Rattle.definition.specs.Step.{Step, refuses}
 use Rattle.definition.specs.Run.{counted}
 use Rattle.definition.specs.declared.Units.{Units}
 use Rattle.definition.specs.declared.Machine.{Machine}
@@ -17,6 +19,14 @@ told t = record { machine = t .machine; counts = counted t }
 -- a step of the machine m, into the image im
 unfoldable pub stepped : Machine → List ℕ → Step → Left Stepped
 stepped m im t = left (told t) (stores (shapeOf m) (penOf m) im (t .pixels))
+
+-- the status of a step that was put off; no machine in range has it
+abbrev pub noSet : ℕ
+noSet = 254
+
+-- a step that would complete is put off where it draws characters and the set is still empty: nothing but the status changes
+unfoldable pub putOff : Bool → List ℕ → Machine → Step → Step
+putOff letters set m t = pick (letters && eqb (length set) 0 && eqb (t .steps) 1) (refuses m noSet) t
 
 -- what is answered for a step that completes: it counts as one
 abbrev pub completed : Machine → ℕ → ℕ → Stepped

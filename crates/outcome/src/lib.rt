@@ -1,4 +1,4 @@
-// How a step ends: refused, or completed, with the counter past its words.
+// How a step ends: refused, put off, or completed with the counter past its words.
 use definition::Counts;
 use definition::Machine;
 use definition::Units;
@@ -6,6 +6,10 @@ ghost use mathlib.Core.Path.{_≡_};
 ghost use Rattle.definition.specs.Machine.{next};
 ghost use Rattle.definition.specs.Step.{refuses};
 ghost use Rattle.outcome.specs.Outcome.{told, completed, wordsIf, arrived};
+
+// The status of a step that was put off: it would draw characters, and no set is there yet. `run` takes the step again with the built-in set, so that no
+// caller sees this status.
+pub const NO_SET: u8 = 254;
 
 // What a step answers: the machine that it leaves, and what it counts.
 pub struct Stepped {

@@ -1,6 +1,6 @@
 -- What the functions of this crate compute in the machine's bits, over plain numbers.
 use Prim.Native.Nat.{ℕ, _<_, _≤_}
-use mathlib.Core.Path.{_≡_, ap, _∙_}
+use mathlib.Core.Path.{_≡_, sym, ap, _∙_}
 use mathlib.Core.Bool.{Bool, true, false}
 use lib.Dec.{T}
 use lib.IntN.{ℤ, pos, negsuc, negℤ, natAbs, _+ℤ_, _-ℤ_}
@@ -16,6 +16,7 @@ use Rattle.definition.specs.Words.{move}
 use Rattle.definition.specs.Machine.{inRange}
 use Rattle.definition.specs.declared.Units.{Units}
 use Rattle.definition.specs.declared.Pixels.{Pixels}
+use Rattle.definition.proofs.Plain.{both-true}
 use Rattle.units.specs.Answers.{movedTo, indexIn}
 use Rattle.units.specs.declared.Moved.the-variants.{To, Out}
 use Rattle.units.specs.declared.Index.the-variants.{At, Outside}
@@ -84,29 +85,53 @@ module _ (u by : Units) (fu : SFits w32 (u .0)) (fb : SFits w32 (by .0)) where
   sum-is : sum ≡ u .0 +ℤ by .0
   sum-is = op-back _+ℤ_ (widened u fu) (widened by fb) room-sum
 
-  pub too-low : ltZ sum (negsuc 4095) ≡ true → Out ≡ movedTo u by
-  unfolding movedTo inRange moved
-  too-low t =
+  pub sum-below : ltZ sum (negsuc 4095) ≡ true → false ≡ inRange (moved u by)
+  unfolding inRange moved
+  sum-below t =
       let l : leZ (negsuc 4095) (u .0 +ℤ by .0) ≡ false = rw (← sum-is) (omega whole) in
       rw l
 
-  pub too-high : ltZ sum (negsuc 4095) ≡ false → ltZ (pos 4095) sum ≡ true → Out ≡ movedTo u by
-  unfolding movedTo inRange moved
-  too-high s t =
+  pub sum-not-below : ltZ sum (negsuc 4095) ≡ false → leZ sum (pos 4095) ≡ inRange (moved u by)
+  unfolding inRange moved
+  sum-not-below t =
       let l : leZ (negsuc 4095) (u .0 +ℤ by .0) ≡ true = rw (← sum-is) (omega whole) in
-      let h : leZ (u .0 +ℤ by .0) (pos 4095) ≡ false = rw (← sum-is) (omega whole) in
-      rw (l, h)
+      rw (l, sum-is)
+
+  -- a sum within the range fits in 32 bits
+  module _ (h : inRange (moved u by) ≡ true) where
+    narrow : SFits w32 (u .0 +ℤ by .0)
+    unfolding inRange moved
+    narrow = let b = both-true {s = leZ (negsuc 4095) (u .0 +ℤ by .0)} {t = leZ (u .0 +ℤ by .0) (pos 4095)} .0 h in omega whole
+
+    pub add-fits : SFits w32 (rd w32 (u .0) +ℤ rd w32 (by .0))
+    add-fits = op-fits _+ℤ_ (toZ-ofZ fu) (toZ-ofZ fb) narrow
+
+    pub add-is : units (rd w32 (rd w32 (u .0) +ℤ rd w32 (by .0))) ≡ moved u by
+    unfolding moved
+    add-is = ap units (op-back _+ℤ_ (toZ-ofZ fu) (toZ-ofZ fb) narrow)
+
+  -- ---- and the move with its range in one
+  out : inRange (moved u by) ≡ false → Out ≡ movedTo u by
+  unfolding movedTo
+  out e = rw e
+
+  pub too-low : ltZ sum (negsuc 4095) ≡ true → Out ≡ movedTo u by
+  too-low t = out (sym (sum-below t))
+
+  pub too-high : ltZ sum (negsuc 4095) ≡ false → ltZ (pos 4095) sum ≡ true → Out ≡ movedTo u by
+  too-high s t =
+      let h : leZ sum (pos 4095) ≡ false = omega whole in
+      out (sym (sum-not-below s) ∙ h)
 
   module _ (s : ltZ sum (negsuc 4095) ≡ false) (t : ltZ (pos 4095) sum ≡ false) where
     pub sum-narrow : SFits w32 sum
     sum-narrow = omega whole
 
     pub in-range : To (units (rd w32 sum)) ≡ movedTo u by
-    unfolding movedTo inRange moved
+    unfolding movedTo moved
     in-range =
-        let l : leZ (negsuc 4095) (u .0 +ℤ by .0) ≡ true = rw (← sum-is) (omega whole) in
-        let h : leZ (u .0 +ℤ by .0) (pos 4095) ≡ true = rw (← sum-is) (omega whole) in
-        rw (l, h) (ap (λ (z : ℤ). To (units z)) (toZ-ofZ sum-narrow ∙ sum-is))
+        let h : leZ sum (pos 4095) ≡ true = omega whole in
+        rw (sym (sum-not-below s) ∙ h) (ap (λ (z : ℤ). To (units z)) (toZ-ofZ sum-narrow ∙ sum-is))
 
 -- ---- the index
 module _ (n : ℕ) (p : Pixels) (f : SFits w32 (p .0)) where

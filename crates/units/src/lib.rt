@@ -3,7 +3,8 @@ use definition::Pixel;
 use definition::Pixels;
 use definition::Units;
 ghost use mathlib.Core.Path.{_≡_};
-ghost use Rattle.definition.specs.Units.{pixelsOf};
+ghost use mathlib.Core.Bool.{true};
+ghost use Rattle.definition.specs.Units.{pixelsOf, moved};
 ghost use Rattle.definition.specs.Image.{square, pixelAt};
 ghost use Rattle.definition.specs.Words.{move};
 ghost use Rattle.definition.specs.Machine.{inRange};
@@ -77,6 +78,27 @@ pub fn moved_to(u: Units, by: Units) -> Moved
     }
     let end = sum as i32;
     Moved::To(Units(end))
+}
+
+// Whether a move stays within the range.
+pub fn may_move(u: Units, by: Units) -> bool
+    ensures { λ r. ⌜ r ≡ inRange (moved u by) ⌝ }
+{
+    let from = u.0 as i64;
+    let distance = by.0 as i64;
+    let sum = from + distance;
+    if sum < LOWEST {
+        return false;
+    }
+    sum <= HIGHEST
+}
+
+// Where a move leads that stays within the range.
+pub fn moved_by(u: Units, by: Units) -> Units
+    requires { ⌜ inRange (moved u by) ≡ true ⌝ }
+    ensures { λ r. ⌜ r ≡ moved u by ⌝ }
+{
+    Units(u.0 + by.0)
 }
 
 // The one place where a signed number becomes an index.

@@ -30,10 +30,11 @@ returns-2 c =
     let a = c .before .before in
     turned-away-then (lending _ _) _ _ _ (a .before .before .lent-door .ensures) (a .before .if1 .left) (a .asked-door .ensures) (c .before .if2 .taken) (c .turned-away2 .ensures)
 
-run-requires : tie.Need-run-requires
-run-requires c κs =
+one-requires : tie.Need-one-requires
+one-requires c κs =
     let a = c .before .before in
-    granted (lending _ _) _ _ _ (a .before .before .lent-door .ensures) (a .before .if1 .left) (a .asked-door .ensures) (c .before .if2 .left)
+    let h = granted (lending _ _) _ _ _ (a .before .before .lent-door .ensures) (a .before .if1 .left) (a .asked-door .ensures) (c .before .if2 .left) in
+    (h .0, h .1, h .3)
 
 same-length-3 : tie.Need-same-length-3
 same-length-3 c = search needs
@@ -42,7 +43,7 @@ returns-3 : tie.Need-returns-3
 returns-3 c =
     let r = c .before .before in
     let a = r .before .before .before in
-    ran (lending _ _) _ _ _ (a .before .before .lent-door .ensures) (a .before .if1 .left) (a .asked-door .ensures) (r .before .before .if2 .left) (r .run .ensures)
+    ran (lending _ _) _ _ _ (a .before .before .lent-door .ensures) (a .before .if1 .left) (a .asked-door .ensures) (r .before .before .if2 .left) (r .one .ensures)
 
 pub step-spec : {M : Type 1} → statement M
 step-spec =
@@ -56,6 +57,6 @@ step-spec =
     turned-away-requires-2
     same-length-2
     returns-2
-    run-requires
+    one-requires
     same-length-3
     returns-3)
