@@ -1,5 +1,5 @@
 -- The cell of a code, and the coordinates in a cell, over plain variables.
-use Prim.Native.Nat.{ℕ, _+_, _-_, _*_, _<_, _≤_}
+use Prim.Native.Nat.{ℕ, _-_, _*_, _<_, _≤_}
 use mathlib.Core.Bool.{true, false}
 use mathlib.Core.Path.{_≡_, ap}
 use mathlib.Core.List.{List}

@@ -1,8 +1,6 @@
 use mathlib.Core.Path.{refl, sym, _∙_}
 use native.Mathlib.Omega.{arith}
 use Rattle.definition.specs.BuiltIn.{builtIn}
-use Rattle.definition.specs.Calls.{lending, given}
-use Rattle.run.specs.Walked.{Within, Walked}
 use Rattle.run.proofs.RunLaws.{gone-on}
 use borrow.Author.Needs.{needs}
 use Rattle.run.proofs.go_on.Statement.{statement}

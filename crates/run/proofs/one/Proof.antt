@@ -1,6 +1,5 @@
 use mathlib.Core.Path.{ap, _∙_}
 use Rattle.definition.specs.Calls.{answered}
-use Rattle.run.specs.Walked.{Walked}
 use Rattle.run.proofs.RunLaws.{serves-lent}
 use native.Mathlib.Omega.{arith}
 use borrow.Author.Needs.{needs}
