@@ -39,11 +39,11 @@ use Rattle.run.specs.Walked.{state, Within, awake, Walked}
 unfoldable pub woken : Machine → Machine
 woken m = pick (eqb (m .status) noSet) (awake m) m
 
-pub woken-off : (m : Machine) → m .status ≡ noSet → woken m ≡ awake m
+woken-off : (m : Machine) → m .status ≡ noSet → woken m ≡ awake m
 unfolding woken
 woken-off m e = ap (λ (t : Bool). pick t (awake m) m) (eq-eqb _ _ e)
 
-pub woken-not : (m : Machine) → (m .status ≡ noSet → ⊥) → woken m ≡ m
+woken-not : (m : Machine) → (m .status ≡ noSet → ⊥) → woken m ≡ m
 unfolding woken
 woken-not m h = ap (λ (t : Bool). pick t (awake m) m) (ne-eqb _ _ h)
 
