@@ -1,6 +1,7 @@
 #!/bin/sh
 # The library in C: ./build, then examples/host.c and the programs of docs/HOST.md, compiled with every warning an error, against what they should print;
-# the names that the library has; that the interface number rises when the header changes; and ./build as it is called with something wrong.
+# the names that the library has, and that one function lays out the built-in characters; that the interface number rises when the header changes; and
+# ./build as it is called with something wrong.
 set -eu
 cd "$(dirname "$0")/.."
 # tests that prove or build in this folder take turns
@@ -78,8 +79,13 @@ grep -q "interface 999, and the library has $number" "$work/error" || fail "with
 
 # ---- the library has the functions of the header, and no other name for a host to run into
 declared include/roadparsnip.h | grep -o 'roadparsnip_[a-z_]*(' | tr -d '(' | sort >"$work/functions"
-"$(tools/cc-x86 -print-prog-name=nm)" -P -g --defined-only "$work/lib/libroadparsnip.a" | sed -n 's/ [A-Za-z] .*//p' | sort | diff "$work/functions" - ||
+nm=$(tools/cc-x86 -print-prog-name=nm)
+"$nm" -P -g --defined-only "$work/lib/libroadparsnip.a" | sed -n 's/ [A-Za-z] .*//p' | sort | diff "$work/functions" - ||
     fail 'other names than the header declares: < as declared, > as the library has them'
+# The function that lays the built-in characters out is one of its own, and so is the loop of a run: neither that loop nor a call has their 760 bytes.
+for own in run::go_on run::walk; do
+    "$nm" "$work/lib/libroadparsnip.a" | grep -q " t $own\$" || fail "$own is no function of its own: see Characters in docs/PERFORMANCE.md"
+done
 
 # ---- the header: the machine has no gap, the records are as large as the code makes them, and a file that includes nothing else compiles
 cat >"$work/alone.c" <<'END'
