@@ -1,4 +1,6 @@
 // What the parts answered, written into a record: crates/parts/src/main.rt has the layout.
+#![tactic(auto)]
+
 use definition::{Fetched, Instruction, Item, Order, Unfetched, Units};
 use units::{Index, Moved};
 

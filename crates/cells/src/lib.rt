@@ -1,4 +1,6 @@
 // Characters: the built-in set, the part of a set that is a code's cell, and a cell drawn into the image.
+#![tactic(auto)]
+
 mod set;
 
 ghost use Rattle.std.specs.Prelude.{◌≡◌, true, ◌+◌, ◌<◌, eqb, pos, ◌+ℤ◌, length};

@@ -1,5 +1,7 @@
 // The course of a vector, in natural numbers: its two axes, which of its pixels are in the field, and the mark that the walk carries from pixel to
 // pixel. Coordinates are counted from the lowest one, -2,048, so that the field is from 2,048 to 2,559 on each axis. docs/VECTORS.md explains it.
+#![tactic(auto)]
+
 ghost use Rattle.std.specs.Prelude.{◌≡◌, ◌+◌, ◌-◌, ◌<◌, ◌≤◌, min, max, true};
 ghost use Rattle.course.specs.Course.{axis_of, course_of, visible, part, mark, paces_of, stepped, Sound, Arrives, Spans};
 

@@ -1,4 +1,5 @@
 // The nouns of document 01. Its rules are the definitions of specs/.
+#![tactic(auto)]
 
 // A count of display units and a count of pixels: two kinds, and neither passes for the other.
 #[derive(Drop)]

@@ -1,4 +1,6 @@
 // The public calls. Each asks its doors first, and asks nothing of its caller.
+#![tactic(auto)]
+
 ghost use Rattle.std.specs.Prelude.{◌≡◌};
 ghost use Rattle.definition.specs.Calls.{lending, uncounted};
 ghost use Rattle.definition.specs.Promises.{PromiseCheck, PromiseFresh, PromiseStart, PromiseRun, PromiseStep, PromiseClear, PromiseRead};

@@ -1,4 +1,6 @@
 // The doors of a call: the ranges of a machine's fields, and all that a run asks before its first step, in two parts.
+#![tactic(auto)]
+
 ghost use Rattle.std.specs.Prelude.{◌≡◌, ◌||◌, eqb, length};
 ghost use Rattle.definition.specs.Machine.{is_mode, is_status, ranged};
 ghost use Rattle.definition.specs.Characters.{set_bytes};

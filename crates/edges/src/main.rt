@@ -1,5 +1,7 @@
 // Document 01's edges, both sides of each, through the public calls: on each line what came out and what the paper says, and at the
 // end how many lines there are and how many differ. What is expected is written down, and computed nowhere.
+#![tactic(auto)]
+
 use definition::{Machine, Pixel, Pixels, Ran, Read, Units};
 use table::{Tally, row, signed_row};
 

@@ -1,4 +1,6 @@
 // The display file: the check of its header, and the fetch of a word.
+#![tactic(auto)]
+
 ghost use Rattle.std.specs.Prelude.{◌≡◌, ◌<◌, get_or, length};
 ghost use Rattle.definition.specs.File.{segments, offset, size, keeps, keep_below, fetch, number_of, number_in};
 ghost use Rattle.definition.specs.Calls.{check_call};

@@ -1,5 +1,7 @@
 // The calls for a host program in C, which include/roadparsnip.h declares: plain numbers and slices, and no call asks anything of its caller.
 // Then the number of the interface, by which a host sees whether its header fits the library.
+#![tactic(auto)]
+
 ghost use Rattle.definition.specs.Calls.{lending};
 ghost use Rattle.definition.specs.Promises.{PromiseCheck, PromiseClear};
 ghost use Rattle.host.specs.Promises.{PromiseHostFresh, PromiseHostStart, PromiseHostRun, PromiseHostStep, PromiseHostRead, PromiseHostInterface};

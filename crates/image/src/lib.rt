@@ -1,4 +1,6 @@
 // The image memory, lent as bytes: the store of a pixel, of a pixel that may lie outside the field, the read and the clear.
+#![tactic(auto)]
+
 ghost use Rattle.std.specs.Prelude.{◌≡◌, [], ◌∷◌, ◌<◌, ◌/◌, ◌%◌, length};
 ghost use Rattle.definition.specs.Image.{square, image_bytes, ink_shape, ink_pen, digit, put_digit, digit_at, store, left};
 ghost use Rattle.image.specs.Drawn.{drawn, cleared};

@@ -1,4 +1,6 @@
 // The display file that an argument of a program names.
+#![tactic(auto)]
+
 ghost use Rattle.io.specs.Counts.{IsPrefixLen};
 
 use libc::STDIN_FILENO;

@@ -1,4 +1,6 @@
 // The items, their words not refused: 27, or where each goes and what it draws.
+#![tactic(auto)]
+
 ghost use Rattle.std.specs.Prelude.{◌≡◌, true, false, ◌&&◌, ◌<◌, pos, length};
 ghost use Rattle.definition.specs.Units.{units, moved};
 ghost use Rattle.definition.specs.Image.{image_bytes, left};

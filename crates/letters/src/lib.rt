@@ -1,4 +1,6 @@
 // A word of two characters, its codes not refused: 27, or put off, or both drawn and X past them.
+#![tactic(auto)]
+
 ghost use Rattle.std.specs.Prelude.{◌≡◌, true, false, ◌*◌, pos, length};
 ghost use Rattle.definition.specs.Units.{units, moved};
 ghost use Rattle.definition.specs.Image.{image_bytes, left};

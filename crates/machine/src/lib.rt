@@ -1,4 +1,6 @@
 // The step: one instruction, from its first fetch to the machine, the counts and the image that it leaves.
+#![tactic(auto)]
+
 ghost use Rattle.std.specs.Prelude.{◌≡◌, true, length};
 ghost use Rattle.definition.specs.Image.{image_bytes, left};
 ghost use Rattle.definition.specs.Machine.{in_range, ranged};

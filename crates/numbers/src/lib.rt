@@ -1,4 +1,6 @@
 // The machine in numbers, as a host program in C holds it: what a call takes of it, and what it gives back.
+#![tactic(auto)]
+
 ghost use Rattle.std.specs.Prelude.{◌≡◌};
 ghost use Rattle.numbers.specs.Numbers.{number, numbers_of, machine_of, flags, taken, given_back, ran_of, interface};
 

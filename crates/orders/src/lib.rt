@@ -1,4 +1,6 @@
 // The orders, the jump apart: what each sets in the machine, but for the counter.
+#![tactic(auto)]
+
 ghost use Rattle.std.specs.Prelude.{◌≡◌};
 ghost use Rattle.definition.specs.Choice.{pick};
 ghost use Rattle.definition.specs.Machine.{with_latch};

@@ -1,4 +1,6 @@
 // How a step ends: refused, put off, or completed with the counter past its words.
+#![tactic(auto)]
+
 ghost use Rattle.std.specs.Prelude.{◌≡◌};
 ghost use Rattle.definition.specs.Machine.{next};
 ghost use Rattle.definition.specs.Step.{refuses};

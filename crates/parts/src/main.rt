@@ -18,6 +18,8 @@
 //   Of an order: 2 whether it sets something (status C: in channel 0), 3 to what, if so; 4 the mode, or whether it stops.
 // 5 vector: 2 value; 4, 6 X and Y of the first pixel, 8, 10 of the last, with 2,048 added. Record of 4: the number of stores.
 // 6 look: 1 whether to fill; 2 with which byte. Record of 4: the digest of the image before.
+#![tactic(auto)]
+
 ghost use Rattle.std.specs.Prelude.{◌<◌};
 ghost use Rattle.vector.specs.Raised.{Reached, Reaches};
 

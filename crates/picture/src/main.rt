@@ -1,6 +1,8 @@
 // picture BUDGET SET [FILE OUT]..: draws each file by a run with that budget, and writes its screen to the new file OUT as a binary PGM. A FILE of `-` is
 // standard input. Of each pair it writes a line: the answer; `unread`, and then it makes no OUT; or `unwritten`, where OUT could not be made, written
 // whole or closed. SET is a file whose bytes are lent as the set of characters, or empty: then none is lent. Where it cannot be read the one line is `no set`.
+#![tactic(auto)]
+
 ghost use Rattle.io.specs.Counts.{IsPrefixLen};
 
 use input::Taken;

@@ -1,5 +1,7 @@
 // plot: writes the line of the display file on standard input.
 // plot FILE..: writes a line for each file, which is the file's own or `unread`. A FILE of `-` is standard input.
+#![tactic(auto)]
+
 use libc::{STDIN_FILENO, STDOUT_FILENO};
 
 // This and the next function answer whether the line was written.

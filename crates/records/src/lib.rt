@@ -1,5 +1,7 @@
 // Numbers in lists of bytes, low byte first: read from one, written to another. Past its end a list reads 0 and takes nothing.
 // A signed number stands there with 2^31 added. And the digest of a list.
+#![tactic(auto)]
+
 ghost use Rattle.std.specs.Prelude.{◌<◌};
 
 pub fn byte_at(bytes: &[u8], i: usize) -> u8 {

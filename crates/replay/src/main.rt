@@ -20,6 +20,8 @@
 // A line: answer, steps, words, stores, counter, X, Y, mode, value, write, latch, increment, status, the digit that was read, and the
 // digest of the image after the call. A call that gives no answer, no count or no digit has 0 there, one that gives no machine has
 // the machine of the case.
+#![tactic(auto)]
+
 use definition::Units;
 use libc::{STDIN_FILENO, STDOUT_FILENO};
 use numbers::{HostMachine, HostRan};

@@ -1,5 +1,7 @@
 // The run: one step after another, while there is budget left and the machine runs. The built-in set is laid out at most once in a run, at the first step
 // that draws with it.
+#![tactic(auto)]
+
 ghost use Rattle.std.specs.Prelude.{◌≡◌, true, ◌-◌, ◌≤◌, length};
 ghost use Rattle.definition.specs.Image.{image_bytes, left};
 ghost use Rattle.definition.specs.Machine.{ranged};

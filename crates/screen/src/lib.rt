@@ -1,4 +1,6 @@
 // The screen of a display file: the image that its bytes draw, and the picture file of an image.
+#![tactic(auto)]
+
 ghost use Rattle.std.specs.Prelude.{◌≡◌, ◌++◌, ◌+◌, ◌-◌, ◌*◌, ◌≤◌, ◌<◌, length, take};
 ghost use Rattle.definition.specs.Image.{image_bytes, left};
 ghost use Rattle.screen.specs.Screen.{drawing, row, rows, pgm};

@@ -1,4 +1,6 @@
 // The calls that make no step: check, fresh, start, clear, read-pixel.
+#![tactic(auto)]
+
 ghost use Rattle.std.specs.Prelude.{◌≡◌};
 ghost use Rattle.definition.specs.Promises.{PromiseCheck, PromiseFresh, PromiseStart, PromiseClear, PromiseRead};
 

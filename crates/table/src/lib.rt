@@ -1,5 +1,7 @@
 // A table on standard output: on each line a case, what came out and what is expected; and at the end how many lines there are and how
 // many differ.
+#![tactic(auto)]
+
 use libc::STDOUT_FILENO;
 
 // The lines so far, and 65,536 more for each that differs.

@@ -1,4 +1,6 @@
 // The line of a display file as text: decimal numbers with a space between two, and a newline at the end.
+#![tactic(auto)]
+
 ghost use Rattle.std.specs.Prelude.{◌≡◌, [], ◌∷◌, ◌++◌, ◌+◌, ◌≤◌, pos, nat_abs, length, take, drop};
 ghost use Rattle.io.specs.Counts.{IsPrefixLen};
 ghost use Rattle.definition.specs.Plot.{printed, text as spelled, plot_text};

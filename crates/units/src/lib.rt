@@ -1,4 +1,6 @@
 // Units and pixels: the halving, a move by its sign and size, the move with its range, and the way from a pixel to an index.
+#![tactic(auto)]
+
 ghost use Rattle.std.specs.Prelude.{◌≡◌, true};
 ghost use Rattle.definition.specs.Units.{pixels_of, moved};
 ghost use Rattle.definition.specs.Image.{square, pixel_at};

@@ -1,4 +1,6 @@
 // A vector drawn into the image: the pixels of the whole vector, of which those in the field are stored.
+#![tactic(auto)]
+
 ghost use Rattle.std.specs.Prelude.{◌≡◌, ◌<◌, ◌≤◌, max, leb, length, pos, nat_abs, ◌+ℤ◌, ◌-ℤ◌};
 ghost use Rattle.definition.specs.Units.{pixels};
 ghost use Rattle.definition.specs.Image.{image_bytes, ink_shape, ink_pen, left};

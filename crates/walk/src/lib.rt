@@ -1,4 +1,6 @@
 // A vector drawn into the image: the pixels of the whole vector, of which those in the field are stored. docs/VECTORS.md explains the walk.
+#![tactic(auto)]
+
 ghost use Rattle.std.specs.Prelude.{◌≡◌, ℕ, ◌<◌, ◌%◌, length, pos, ◌+ℤ◌};
 ghost use Rattle.definition.specs.Image.{image_bytes, ink_shape, ink_pen, left};
 ghost use Rattle.definition.specs.Vector.{numbered, vector};

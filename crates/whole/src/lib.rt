@@ -1,1 +1,2 @@
 // Laws on whole numbers, in specs/. No code.
+#![tactic(auto)]

@@ -1,4 +1,6 @@
 // The words: from a first word and the mode to the instruction, the second words of modes 2 and 3, and what a word is refused for.
+#![tactic(auto)]
+
 ghost use Rattle.std.specs.Prelude.{ℕ, ◌≡◌};
 ghost use Rattle.definition.specs.Choice.{first_of};
 ghost use Rattle.definition.specs.Words.{bits, sets_mode, not_built, order, item, decode, short_x, short_y, long, coordinate, first_code, second_code, is_code, first_refusals, second_refusals};
