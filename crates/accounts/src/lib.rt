@@ -46,7 +46,7 @@ fn number_of_refusal(why: Unfetched) -> u8 {
     }
 }
 
-#[derive(Drop)]
+#[derive(Clone, Copy)]
 struct Account {
     kind: u8,
     flag: u8,

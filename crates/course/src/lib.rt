@@ -11,7 +11,7 @@ ghost use Rattle.course.specs.Course.{axis_of, course_of, visible, part, mark, p
 // down: 1 where they go down, else 0
 // weight: what a step is in a pixel's number, 1 or 512
 // stride: that, up or down, as it is added modulo 2^64
-#[derive(Drop)]
+#[derive(Clone, Copy)]
 pub struct Axis {
     pub from: u32,
     pub size: u32,
@@ -23,7 +23,7 @@ pub struct Axis {
 // The longer axis makes a step at every pixel, the shorter one now and then.
 // half: what is carried at the start
 // place: the number of the start
-#[derive(Drop)]
+#[derive(Clone, Copy)]
 pub struct Course {
     pub long: Axis,
     pub short: Axis,
@@ -32,14 +32,14 @@ pub struct Course {
 }
 
 // The pixels from the first one on and before the end.
-#[derive(Drop)]
+#[derive(Clone, Copy)]
 pub struct Span {
     pub first: u32,
     pub end: u32,
 }
 
 // What a step adds to a mark: below the limit the longer axis goes on alone, else both do.
-#[derive(Drop)]
+#[derive(Clone, Copy)]
 pub struct Paces {
     pub limit: usize,
     pub one: usize,

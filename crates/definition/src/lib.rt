@@ -2,14 +2,14 @@
 #![tactic(auto)]
 
 // A count of display units and a count of pixels: two kinds, and neither passes for the other.
-#[derive(Drop)]
+#[derive(Clone, Copy)]
 pub struct Units(pub i32);
 
-#[derive(Drop)]
+#[derive(Clone, Copy)]
 pub struct Pixels(pub i32);
 
 // A pixel by its two coordinates: (0, 0) is the lower left one, y grows upward.
-#[derive(Drop)]
+#[derive(Clone, Copy)]
 pub struct Pixel {
     pub x: Pixels,
     pub y: Pixels,
@@ -17,7 +17,7 @@ pub struct Pixel {
 
 // Numbers where document 01 gives a range, so that a machine out of range can be handed over, and refused by 16. No mode is 255. The largest
 // fields come first, so that there is no gap between two of them: a copy over one is slow (docs/PERFORMANCE.md).
-#[derive(Drop)]
+#[derive(Clone, Copy)]
 pub struct Machine {
     pub x: Units,
     pub y: Units,
@@ -31,54 +31,54 @@ pub struct Machine {
 }
 
 // What a store writes with: of a machine, all that its stores depend on.
-#[derive(Drop)]
+#[derive(Clone, Copy)]
 pub struct Ink {
     pub value: u8,
 }
 
 // Why an address gives no word.
-#[derive(Drop)]
+#[derive(Clone, Copy)]
 pub enum Unfetched {
     Odd,
     NoSegment,
     NoPlace,
 }
 
-#[derive(Drop)]
+#[derive(Clone, Copy)]
 pub enum Fetched {
     Word(u16),
     Refused(Unfetched),
 }
 
 // The bits of a word with bit 15 set, as they stand there: which is set, and to what.
-#[derive(Drop)]
+#[derive(Clone, Copy)]
 pub struct ModeBits {
     pub mode: u8,
     pub sets: bool,
     pub value: u8,
 }
 
-#[derive(Drop)]
+#[derive(Clone, Copy)]
 pub struct StopBits {
     pub loads: bool,
     pub latch: bool,
     pub stops: bool,
 }
 
-#[derive(Drop)]
+#[derive(Clone, Copy)]
 pub struct IncrementBits {
     pub sets: bool,
     pub increment: u8,
 }
 
-#[derive(Drop)]
+#[derive(Clone, Copy)]
 pub struct WriteBits {
     pub channel: u8,
     pub write: bool,
 }
 
 // A word with bit 15 set.
-#[derive(Drop)]
+#[derive(Clone, Copy)]
 pub enum Order {
     SetMode(ModeBits),
     Jump,
@@ -89,7 +89,7 @@ pub enum Order {
 }
 
 // A word with bit 15 clear, by the mode: moves signed, coordinates and the codes of characters as they stand. What a second word holds is not in it.
-#[derive(Drop)]
+#[derive(Clone, Copy)]
 pub enum Item {
     ShortVector { x: Units, y: Units },
     LongVector { x: Units },
@@ -100,14 +100,14 @@ pub enum Item {
     Characters { first: u8, second: u8 },
 }
 
-#[derive(Drop)]
+#[derive(Clone, Copy)]
 pub enum Instruction {
     Does(Order),
     Draws { lit: bool, item: Item },
 }
 
 // What a run counts, over completed steps.
-#[derive(Drop)]
+#[derive(Clone, Copy)]
 pub struct Counts {
     pub steps: u32,
     pub words: u32,
@@ -115,20 +115,20 @@ pub struct Counts {
 }
 
 // What the calls answer, beside the image.
-#[derive(Drop)]
+#[derive(Clone, Copy)]
 pub struct Ran {
     pub answer: u8,
     pub counts: Counts,
     pub machine: Machine,
 }
 
-#[derive(Drop)]
+#[derive(Clone, Copy)]
 pub struct Started {
     pub answer: u8,
     pub machine: Machine,
 }
 
-#[derive(Drop)]
+#[derive(Clone, Copy)]
 pub struct Read {
     pub answer: u8,
     pub digit: u8,

@@ -56,7 +56,7 @@ fn line(m: Machine, image: &mut [u8], lit: bool, x: Units, y: Units) -> u32
 }
 
 // Where a move from the position ends, within the range or out of it.
-#[derive(Drop)]
+#[derive(Clone, Copy)]
 enum End {
     Within { x: Units, y: Units },
     Out,

@@ -11,7 +11,7 @@ ghost use Rattle.line.specs.Numbers.{numbers};
 
 use definition::Units;
 
-#[derive(Drop)]
+#[derive(Clone, Copy)]
 pub struct Line {
     pub answer: u8,
     pub steps: u32,

@@ -61,7 +61,7 @@ fn does(file: &[u16], m: Machine, order: Order) -> Stepped
 }
 
 // The second word of a long vector or an absolute point: one that is taken, or the number that the step is refused with.
-#[derive(Drop)]
+#[derive(Clone, Copy)]
 enum Second {
     Taken(u16),
     Turned(u8),

@@ -8,7 +8,7 @@ use definition::{Machine, Ran, Units};
 
 // In an order that leaves no gap between two fields. A flag that is neither 0 nor 1 is out of range.
 #[repr(C)]
-#[derive(Drop)]
+#[derive(Clone, Copy)]
 pub struct HostMachine {
     pub x: i32,
     pub y: i32,
@@ -22,14 +22,14 @@ pub struct HostMachine {
 }
 
 #[repr(C)]
-#[derive(Drop)]
+#[derive(Clone, Copy)]
 pub struct HostStarted {
     pub machine: HostMachine,
     pub answer: u8,
 }
 
 #[repr(C)]
-#[derive(Drop)]
+#[derive(Clone, Copy)]
 pub struct HostRan {
     pub machine: HostMachine,
     pub steps: u32,
@@ -39,7 +39,7 @@ pub struct HostRan {
 }
 
 #[repr(C)]
-#[derive(Drop)]
+#[derive(Clone, Copy)]
 pub struct HostRead {
     pub digit: u8,
     pub answer: u8,

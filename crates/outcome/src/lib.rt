@@ -13,7 +13,7 @@ use definition::{Counts, Machine, Units};
 pub const NO_SET: u8 = 254;
 
 // What a step answers: the machine that it leaves, and what it counts.
-#[derive(Drop)]
+#[derive(Clone, Copy)]
 pub struct Stepped {
     pub machine: Machine,
     pub counts: Counts,

@@ -64,6 +64,6 @@ fn put_rows(picture: &mut [u8], image: &[u8])
 pub fn picture_of(image: &[u8; 65536], picture: &mut [u8; PICTURE])
     ensures { picture.new ≡ pgm image.now }
 {
-    bytes::copy(b"P5\n512 512\n3\n", picture);
+    picture[..HEADER].copy_from_slice(b"P5\n512 512\n3\n");
     put_rows(picture, image);
 }

@@ -11,14 +11,14 @@ ghost use Rattle.units.specs.Answers.{moved_to, index_in};
 use definition::{Pixel, Pixels, Units};
 
 // Where a move leads, or that it leads out of the range.
-#[derive(Drop)]
+#[derive(Clone, Copy)]
 pub enum Moved {
     To(Units),
     Out,
 }
 
 // A pixel's coordinate as an index of the field, or that it has none.
-#[derive(Drop)]
+#[derive(Clone, Copy)]
 pub enum Index {
     At(usize),
     Outside,
