@@ -1,6 +1,6 @@
 -- Laws of drawing one list of pixels after another: a bit, a turn of a loop, a row, and how many pixels are stored at most.
 use Prim.Native.Nat.{ℕ, zero, suc, ◌+◌, ◌-◌, ◌<◌, ◌≤◌}
-use mathlib.Core.Bool.{Bool, true, false, and_false}
+use mathlib.Core.Bool.{Bool, true, false, and-false}
 use mathlib.Core.Path.{◌≡◌, refl, sym, ◌∙◌}
 use mathlib.Core.List.{List, [], ◌∷◌}
 use mathlib.Core.Logic.{⊎_elim}
@@ -92,7 +92,7 @@ module _ (s : Shape) (on : Bool) (x y : ℤ) where
 
   beside : below s.height y ≡ false → inside s (pick on (pixel x y ∷ []) []) ≡ []
   unfolding in_field
-  beside e = hidden (rw e (and_false (below s.width x)))
+  beside e = hidden (rw e (and-false (below s.width x)))
 
   past : below s.width x ≡ false → inside s (pick on (pixel x y ∷ []) []) ≡ []
   unfolding in_field
@@ -176,7 +176,7 @@ aside_outside x k e h = ⊎_elim left_of right_of ((either_true {s = lt_z x (neg
     left_of t = let l : le_z (pos 0) (x +ℤ pos k) ≡ false = omega (whole, add x (pos k)) in rw l
 
     right_of : lt_z (pos 511) x ≡ true → below 512 (x +ℤ pos k) ≡ false
-    right_of t = let r : lt_z (x +ℤ pos k) (pos 512) ≡ false = omega (whole, add x (pos k)) in simp (r, and_false)
+    right_of t = let r : lt_z (x +ℤ pos k) (pos 512) ≡ false = omega (whole, add x (pos k)) in simp (r, and-false)
 
 pub cell_aside : (s : Shape) (pen : Pen) (im : List ℕ) (corner : Pixel) (cell : List ℕ) {t : Bool} → s.width ≡ 512 → t ≡ aside corner.x.0 → t ≡ true → left 0 im ≡ drawn s pen im (cell_pixels corner cell)
 unfolding drawn stores cell_pixels row_pixels

@@ -1,6 +1,6 @@
 -- Which pixels of a course are in the field: those of a span, by each axis.
 use Rattle.std.proofs.Common.{◌≡◌, ℕ, suc, ◌+◌, ◌-◌, ◌*◌, ◌/◌, ◌%◌, ◌<◌, ◌≤◌, min, max, Bool, true, false, ltb, leb, refl, mul-le-mul_right, mod-lt, div-lt_iff_lt-mul, mul-le-mul_left, div-add-mod', arith, ltb-false, ltb-true, le-ltb, lt-ltb, le-leb, leb-false, leb-true}
-use mathlib.Core.Bool.{and_false}
+use mathlib.Core.Bool.{and-false}
 use native.Mathlib.Nat.{lt_of_mul-lt-mul_left}
 use borrow.Author.Tests.{lt-leb}
 use Rattle.definition.proofs.Plain.{both_true}
@@ -110,12 +110,12 @@ module _ (c : Course) {kf ke lf le f e : ℕ} (ekf : kf ≡ 2048 - c.short.from)
       before i l r = go (ltb i f) refl
         where
           go : (t : Bool) → ltb i f ≡ t → visible c i ≡ false
-          go true k = let a = af.before i (ltb-true i f k) r in rw (within_before (c.short.from + gone_at c i) (omega arith), and_false (within (c.long.from + i)))
+          go true k = let a = af.before i (ltb-true i f k) r in rw (within_before (c.short.from + gone_at c i) (omega arith), and-false (within (c.long.from + i)))
           go false k = rw (within_before (c.long.from + i) (omega (arith, ltb-false i f k)))
 
       after : (i : ℕ) → end ≤ i → i ≤ c.long.size → visible c i ≡ false
       after i l r = go (leb e i) refl
         where
           go : (t : Bool) → leb e i ≡ t → visible c i ≡ false
-          go true k = let a = ae.from i (leb-true e i k) r in rw (within_after (c.short.from + gone_at c i) (omega arith), and_false (within (c.long.from + i)))
+          go true k = let a = ae.from i (leb-true e i k) r in rw (within_after (c.short.from + gone_at c i) (omega arith), and-false (within (c.long.from + i)))
           go false k = rw (within_after (c.long.from + i) (omega (arith, leb-false e i k)))

@@ -6,7 +6,7 @@ use mathlib.Core.Path.{◌≡◌, refl, sym, ◌∙◌}
 use native.Mathlib.Omega.{arith}
 use lib.Dec.{eqb, ltb}
 use lib.ListN.{length}
-use borrow.Author.Tests.{lt-ltb, le-ltb, ltb-false, le-leb, lt-leb, eq-eqb, ne_eqb, eqb-true, not_true, not_false}
+use borrow.Author.Tests.{lt-ltb, le-ltb, ltb-false, le-leb, lt-leb, eq-eqb, ne_eqb, eqb-true, not-true, not-false}
 use Rattle.definition.specs.Choice.{pick, first_of}
 use Rattle.definition.specs.Image.{image_bytes}
 use Rattle.definition.specs.File.{file_doors, head_doors, segment_doors}
@@ -34,10 +34,10 @@ module _ (k : ℕ) where
 -- what a test that a function answers, asked in an `if !`, tells of its definition
 module _ {t s : Bool} (e : t ≡ s) where
   pub failed : not t ≡ true → s ≡ false
-  failed h = sym e ∙ not_true t h
+  failed h = sym e ∙ not-true t h
 
   pub held : not t ≡ false → s ≡ true
-  held h = sym e ∙ not_false t h
+  held h = sym e ∙ not-false t h
 
 module _ (m : Machine) where
   pub x_out : in_range m.x ≡ false → false ≡ ranged m
@@ -146,4 +146,4 @@ pub opened : (l : Lent) (m : Machine) (im : List ℕ) (b : ℕ) → run_door l m
 unfolding run_door run_doors image_doors file_doors head_doors segment_doors machine_doors budget_doors set_doors running_doors
 opened l m im b z =
     let passed : (n : ℕ) → Fails n (run_doors l m im b) = λ n. fails n (run_doors l m im b) refl z in
-    (eqb-true _ _ (not_false _ (passed 11)), not_false _ (passed 16), ltb-false _ _ (passed 17), serves l.set (not_false _ (passed 18)), eqb-true _ _ (not_false _ (passed 28)))
+    (eqb-true _ _ (not-false _ (passed 11)), not-false _ (passed 16), ltb-false _ _ (passed 17), serves l.set (not-false _ (passed 18)), eqb-true _ _ (not-false _ (passed 28)))

@@ -7,7 +7,7 @@ use native.Mathlib.Numerals.{sub-one}
 use native.Mathlib.Omega.{arith}
 use lib.Dec.{leb}
 use lib.ListN.{length, get_or}
-use borrow.Author.Tests.{lt-ltb, le-ltb, le-leb, lt-leb, eq-eqb, ne_eqb, not_true, not_false}
+use borrow.Author.Tests.{lt-ltb, le-ltb, le-leb, lt-leb, eq-eqb, ne_eqb, not-true, not-false}
 use Rattle.definition.specs.Choice.{first_of}
 use Rattle.definition.specs.File.{tag, segments, offset, size, header, keeps, keep_below, head_doors, segment_doors, file_doors, segment_of, place_of, fetch}
 use Rattle.definition.specs.Calls.{check_call}
@@ -45,10 +45,10 @@ keep_next f (suc i) p = rw sub-one
 module _ (f : List ℕ) {i : ℕ} (so : keep_below f (segments f) ≡ keep_below f i) where
   module _ {h : ℕ} {b : Bool} (eb : b ≡ keeps h (length f) (offset f (i - 1)) (size f (i - 1))) where
     pub one_fails : not b ≡ true → 0 < i → h ≡ header f → false ≡ keep_below f (segments f)
-    one_fails t p eh = sym (so ∙ keep_next f i p ∙ rw (← eh, ← eb, not_true b t))
+    one_fails t p eh = sym (so ∙ keep_next f i p ∙ rw (← eh, ← eb, not-true b t))
 
     pub one_keeps : not b ≡ false → 0 < i → h ≡ header f → keep_below f (segments f) ≡ keep_below f (i - 1)
-    one_keeps t p eh = so ∙ keep_next f i p ∙ rw (← eh, ← eb, not_false b t)
+    one_keeps t p eh = so ∙ keep_next f i p ∙ rw (← eh, ← eb, not-false b t)
 
   pub none_left : i ≡ 0 → true ≡ keep_below f (segments f)
   unfolding keep_below
@@ -83,11 +83,11 @@ module _ (f : List ℕ) where
           module _ (whole : header f ≤ length f) {b : Bool} (eb : b ≡ keep_below f (segments f)) where
             pub segment_wrong : not b ≡ true → 15 ≡ check_call f
             unfolding check_call first_of file_doors head_doors segment_doors
-            segment_wrong t = rw (le-ltb _ _ two, eq-eqb _ _ one, ne_eqb _ _ some, le-ltb _ _ few, le-ltb _ _ whole, ← eb, not_true b t)
+            segment_wrong t = rw (le-ltb _ _ two, eq-eqb _ _ one, ne_eqb _ _ some, le-ltb _ _ few, le-ltb _ _ whole, ← eb, not-true b t)
 
             pub all_right : not b ≡ false → 0 ≡ check_call f
             unfolding check_call first_of file_doors head_doors segment_doors
-            all_right t = rw (le-ltb _ _ two, eq-eqb _ _ one, ne_eqb _ _ some, le-ltb _ _ few, le-ltb _ _ whole, ← eb, not_false b t)
+            all_right t = rw (le-ltb _ _ two, eq-eqb _ _ one, ne_eqb _ _ some, le-ltb _ _ few, le-ltb _ _ whole, ← eb, not-false b t)
 
 -- ---- the fetch at the address a
 module _ (f : List ℕ) (a : ℕ) where

@@ -6,7 +6,7 @@ use mathlib.Core.List.{List, []}
 use native.Mathlib.Omega.{arith}
 use lib.ListN.{length, length-append}
 use lib.IntN.{pos}
-use borrow.Author.Tests.{not_false}
+use borrow.Author.Tests.{not-false}
 use Rattle.definition.specs.Choice.{pick}
 use Rattle.definition.specs.Units.{units, moved}
 use Rattle.definition.specs.Image.{pixel_at, inside}
@@ -40,7 +40,7 @@ module _ (g : Given) (m : Machine) (h : ranged m ≡ true) where
   vector_few : (dx dy : Units) → leaves m.x (Move dx) ≡ false → leaves m.y (Move dy) ≡ false → length (vector_by m dx dy) ≤ 4096
   vector_few dx dy lx ly =
       let w = (ranges m).0 h in
-      vector_short _ _ (reaches _ _ w.x w.y) (reaches _ _ (not_false (in_range (moved m.x dx)) lx) (not_false (in_range (moved m.y dy)) ly))
+      vector_short _ _ (reaches _ _ w.x w.y) (reaches _ _ (not-false (in_range (moved m.x dx)) lx) (not-false (in_range (moved m.y dy)) ly))
 
   item_few : (it : Item) (v : ℕ) → leaves m.x (item_way m.increment it v).x ≡ false → leaves m.y (item_way m.increment it v).y ≡ false → length (item_pixels g m it v) ≤ 4096
   item_few (ShortVector dx dy) v lx ly = vector_few dx dy lx ly

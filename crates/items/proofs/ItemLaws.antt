@@ -9,7 +9,7 @@ use lib.IntN.{pos}
 use mir.Syntax.{w32}
 use mir.Val.{to_z}
 use mir.Facts.{to_z_pos}
-use borrow.Author.Tests.{not_true, not_false}
+use borrow.Author.Tests.{not-true, not-false}
 use Rattle.definition.specs.Units.{units, moved}
 use Rattle.definition.specs.Image.{Left, left, square, pixel_at, ink_shape, ink_pen, stores}
 use Rattle.definition.specs.Vector.{vector}
@@ -49,12 +49,12 @@ module _ (u by : Units) {d : Units} (e : d ≡ by) {on : Bool} (a : on ≡ in_ra
 
   pub may_lead : {v : Units} → not on ≡ false → v ≡ moved u d → Leads u (Move by) v
   may_lead t ev =
-      let w : in_range (moved u by) ≡ true = asked ∙ not_false on t in
+      let w : in_range (moved u by) ≡ true = asked ∙ not-false on t in
       let to = ap (moved u) (sym e) ∙ sym ev in
       record { stays = rw w; to = to; within = rw (← to) w }
 
   pub may_not : not on ≡ true → leaves u (Move by) ≡ true
-  may_not t = rw (asked ∙ not_true on t)
+  may_not t = rw (asked ∙ not-true on t)
 
 -- the increment, as the machine's signed number
 pub by_increment : (n : ℕ) → n < 256 → units (to_z w32 n) ≡ units (pos n)
@@ -64,17 +64,17 @@ by_increment n h = ap units (to_z_pos w32 (omega arith))
 module _ (m : Machine) (lit : Bool) (im : List ℕ) {on : Bool} (e : on ≡ lit && m.write) where
   pub dark : (ps : List Pixel) → not on ≡ true → left 0 im ≡ lights m lit im ps
   unfolding lights kept stores
-  dark ps t = rw (← e, not_true on t)
+  dark ps t = rw (← e, not-true on t)
 
   module _ (x y : Units) {n : ℕ} {im' : List ℕ} (t : not on ≡ false) where
     pub lit_point : {p : Pixel} {k : Ink} → p ≡ pixel_at square x y → k ≡ ink_of m → left n im' ≡ drawn (ink_shape k) (ink_pen k) im (p ∷ []) → left n im' ≡ lights m lit im (point_at m x y)
     unfolding lights kept drawn
-    lit_point ep ek d = rw (← e, not_false on t, ← ep, ← ek) d
+    lit_point ep ek d = rw (← e, not-false on t, ← ep, ← ek) d
 
     pub lit_line : {a b : Pixel} {k : Ink} → a ≡ pixel_at square m.x m.y → b ≡ pixel_at square x y → k ≡ ink_of m → left n im' ≡ drawn (ink_shape k) (ink_pen k) im (vector a b)
         → left n im' ≡ lights m lit im (vector_to m x y)
     unfolding lights kept drawn
-    lit_line ea eb ek d = rw (← e, not_false on t) (d ∙ rw (ea, eb, ek))
+    lit_line ea eb ek d = rw (← e, not-false on t) (d ∙ rw (ea, eb, ek))
 
 -- ---- the item
 module _ (m : Machine) (lit : Bool) (im : List ℕ) (w : Way) (second : Bool) {r : Stepped} where

@@ -7,7 +7,7 @@ use mathlib.Core.Logic.{◌⊎◌}
 use lib.ListN.{length}
 use lib.IntN.{pos, negsuc, ◌+ℤ◌}
 use lib.Signed.{le_z}
-use borrow.Author.Tests.{not_false}
+use borrow.Author.Tests.{not-false}
 use Rattle.whole.specs.Parts.{whole, add}
 use Rattle.definition.specs.Units.{units, moved}
 use Rattle.definition.specs.Image.{square, pixel_at, left, stores}
@@ -72,7 +72,7 @@ module _ (m : Machine) (set : List ℕ) (im : List ℕ) where
       → left n im' ≡ drawn (shape_of m) (pen_of m) im (character_at set m m.x m.y first) → left r im'' ≡ drawn (shape_of m) (pen_of m) im' (character_at set m next m.y second)
       → left (n + r) im'' ≡ lights m true im (pair_pixels set m first second)
   unfolding lights kept drawn
-  both_lit first second e w d d' = rw (not_false m.write w, ← e) (drawn_then (shape_of m) (pen_of m) im _ _ d d')
+  both_lit first second e w d d' = rw (not-false m.write w, ← e) (drawn_then (shape_of m) (pen_of m) im _ _ d d')
 
 -- ---- the word, by what was asked: whether X may move, and whether a set is there
 module _ (m : Machine) (im : List ℕ) (set : List ℕ) (w : Way) (ps : List Pixel) where

@@ -1,6 +1,6 @@
 -- A machine and its numbers: each gives the other back, and the machine that a call works on is in range where all the numbers are.
 use Prim.Native.Nat.{ℕ, zero, suc, ◌<◌, ◌≤◌}
-use mathlib.Core.Bool.{Bool, true, false, ◌&&◌, and_false}
+use mathlib.Core.Bool.{Bool, true, false, ◌&&◌, and-false}
 use mathlib.Core.Path.{◌≡◌, refl, sym, ◌∙◌}
 use native.Mathlib.Omega.{arith}
 use lib.Dec.{eqb, ltb}
@@ -25,7 +25,7 @@ module _ (m : HostMachine) where
 
   pub latch_out : 2 ≤ m.latch → false ≡ flags m
   unfolding flags
-  latch_out h = simp (le-ltb _ _ h, and_false)
+  latch_out h = simp (le-ltb _ _ h, and-false)
 
   pub flags_in : m.write < 2 → m.latch < 2 → true ≡ flags m
   unfolding flags
@@ -78,7 +78,7 @@ module _ (m : HostMachine) where
     where
       go : (t : Bool) → ranged (pick t (machine_of m) (with_mode (machine_of m) m.mode spoilt)) ≡ t && ranged (machine_of m)
       go true = refl
-      go false = simp and_false
+      go false = simp and-false
 
   pub status_taken : (taken m).status ≡ m.status
   unfolding taken

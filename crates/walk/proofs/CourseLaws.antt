@@ -1,6 +1,6 @@
 -- A vector by its course: in natural numbers the course has the pixels of the definition.
 use Prim.Native.Nat.{ℕ, suc, ◌+◌, ◌-◌, ◌*◌, ◌/◌, ◌≤◌, ◌<◌}
-use mathlib.Core.Bool.{Bool, true, false, ◌&&◌, and_false, and_comm}
+use mathlib.Core.Bool.{Bool, true, false, ◌&&◌, and-false, and_comm}
 use mathlib.Core.Path.{◌≡◌, refl, sym, ap, ◌∙◌}
 use native.Mathlib.Omega.{arith}
 use native.Mathlib.Nat.{div-add-mod', mod-lt}
@@ -67,7 +67,7 @@ below_low : (z : ℤ) → le_z (pos 0) z ≡ false → below 512 z ≡ false
 below_low z l = rw l
 
 below_high : (z : ℤ) → lt_z z (pos 512) ≡ false → below 512 z ≡ false
-below_high z u = rw (u, and_false (le_z (pos 0) z))
+below_high z u = rw (u, and-false (le_z (pos 0) z))
 
 -- ---- one axis, from s to t
 module _ (s t : ℤ) {r e : ℕ} (pr : pos r ≡ s +ℤ pos 2048) (pe : pos e ≡ t +ℤ pos 2048) (hr : r < 4096) (w : ℕ) where

@@ -3,7 +3,7 @@ use Prim.Native.Nat.{ℕ, ◌<◌, ◌≤◌}
 use mathlib.Core.Bool.{Bool, true, false, not}
 use mathlib.Core.Path.{◌≡◌, refl}
 use lib.Dec.{leb}
-use borrow.Author.Tests.{eq-eqb, ne_eqb, le-leb, lt-leb, not_true, not_false}
+use borrow.Author.Tests.{eq-eqb, ne_eqb, le-leb, lt-leb, not-true, not-false}
 use Rattle.definition.specs.Choice.{first_of}
 use Rattle.definition.specs.Words.{bits, bit, code, sets_mode, not_built, order, move, short_x, short_y, long, coordinate, first_code, second_code, none, item, decode, is_code, first_refusals, second_refusals}
 use Rattle.definition.specs.declared.Units.{Units}
@@ -136,16 +136,16 @@ module _ (mode w : ℕ) where
     module _ (z : mode ≡ 0) {a : ℕ} {s : Bool} (ea : a ≡ first_code w) (es : s ≡ is_code a) where
       pub refused_32 : not s ≡ true → 32 ≡ first_of (first_refusals mode w)
       unfolding first_of first_refusals
-      refused_32 h = rw (ne_eqb _ _ e, z, ← ea, ← es, not_true s h)
+      refused_32 h = rw (ne_eqb _ _ e, z, ← ea, ← es, not-true s h)
 
       module _ (h : not s ≡ false) {b : ℕ} {t : Bool} (eb : b ≡ second_code w) (et : t ≡ is_code b) where
         pub refused_32_second : not t ≡ true → 32 ≡ first_of (first_refusals mode w)
         unfolding first_of first_refusals
-        refused_32_second k = rw (ne_eqb _ _ e, z, ← ea, ← es, not_false s h, ← eb, ← et, not_true t k)
+        refused_32_second k = rw (ne_eqb _ _ e, z, ← ea, ← es, not-false s h, ← eb, ← et, not-true t k)
 
         pub characters_pass : not t ≡ false → 0 ≡ first_of (first_refusals mode w)
         unfolding first_of first_refusals
-        characters_pass k = rw (ne_eqb _ _ e, z, ← ea, ← es, not_false s h, ← eb, ← et, not_false t k)
+        characters_pass k = rw (ne_eqb _ _ e, z, ← ea, ← es, not-false s h, ← eb, ← et, not-false t k)
 
 module _ (w : ℕ) where
   pub refused_26 : bits 15 15 w ≡ 1 → 26 ≡ first_of (second_refusals w)

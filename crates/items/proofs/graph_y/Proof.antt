@@ -2,7 +2,7 @@ use mathlib.Core.Logic.{inl}
 use mathlib.Core.Path.{sym, ◌∙◌}
 use Rattle.definition.specs.Step.{point_at}
 use borrow.Author.Rules.{rules}
-use borrow.Author.Tests.{not_false}
+use borrow.Author.Tests.{not-false}
 use Rattle.definition.proofs.StepLaws.{ranges}
 use Rattle.items.proofs.ItemLaws.{set_leads, may_lead, may_not, goes_out, goes_to}
 use Rattle.items.proofs.graph_y.Statement.{statement}
@@ -21,7 +21,7 @@ returns : tie.Need-returns
 returns c = let k = c.before.before in goes_out _ _ _ _ _ _ (inl (may_not _ _ k.before.increment-of.ensures k.may-move.ensures c.before.if1.true)) c.refused.ensures
 
 moved-by-requires : tie.Need-moved-by-requires
-moved-by-requires c κs = sym c.before.may-move.ensures ∙ not_false _ c.if1.false
+moved-by-requires c κs = sym c.before.may-move.ensures ∙ not-false _ c.if1.false
 
 point-requires : tie.Need-point-requires
 point-requires c κs = let h = c.before.before.before.before.before.before.requires in (h.0, ((ranges _).0 h.1).value)

@@ -3,7 +3,7 @@ use mathlib.Core.List.{List}
 use mathlib.Core.Logic.{inl}
 use mathlib.Core.Path.{◌≡◌, refl, sym, ap, ◌∙◌}
 use lib.ListN.{length}
-use borrow.Author.Tests.{not_false, eqb-true, eqb-false}
+use borrow.Author.Tests.{not-false, eqb-true, eqb-false}
 use Rattle.definition.specs.Characters.{chosen}
 use Rattle.definition.specs.BuiltIn.{built_in}
 use Rattle.definition.proofs.StepLaws.{ranges}
@@ -48,11 +48,11 @@ both-requires c κs =
     let e = c.before in
     let k = e.before.before in
     let h = k.before.before.before.before.before.requires in
-    let w = sym k.before.may-move.ensures ∙ not_false _ k.if1.false in
+    let w = sym k.before.may-move.ensures ∙ not-false _ k.if1.false in
     (h.0, h.1, half_way _ ((ranges _).0 h.1).x w, h.2, h.3, ap length (h.4.1 (none e)) ∙ h.4.0)
 
 moved-by-requires : tie.Need-moved-by-requires
-moved-by-requires c κs = let k = c.before.before.before.before.before.before in sym k.before.may-move.ensures ∙ not_false _ k.if1.false
+moved-by-requires c κs = let k = c.before.before.before.before.before.before in sym k.before.may-move.ensures ∙ not-false _ k.if1.false
 
 placed-requires : tie.Need-placed-requires
 placed-requires c κs = search rules
