@@ -1,32 +1,45 @@
+use borrow.Author.Rules.{rules}
 use mir.Syntax.{w32}
 use mir.Val.{SFits}
 use Rattle.units.proofs.UnitLaws.{widens, sum_fits, too_low, too_high, sum_narrow, in_range_is}
 use Rattle.units.proofs.moved_to.Goals as goal
 
--- what the machine knows of its two numbers, once it has read them
-fits-u : (c : tie.After-struct-told) → SFits w32 c.before.before.args.u.0
-fits-u c = record { sfits = c.struct_told.given.0.1 }
-
-fits_by : (c : tie.After-struct-told2) → SFits w32 c.before.before.before.before.args.by.0
-fits_by c = record { sfits = c.struct-told2.given.0.1 }
-
 pub overflow_cast-from : goal.overflow_cast-from
-overflow_cast-from c = widens _ (fits-u c)
+overflow_cast-from c =
+    let fu : SFits w32 c.args.u.0 = search rules in
+    widens _ fu
 
 pub overflow_cast-distance : goal.overflow_cast-distance
-overflow_cast-distance c = widens _ (fits_by c)
+overflow_cast-distance c =
+    let fb : SFits w32 c.args.by.0 = search rules in
+    widens _ fb
 
 pub overflow_add-sum : goal.overflow_add-sum
-overflow_add-sum c = sum_fits _ _ (fits-u c.before.before) (fits_by c)
+overflow_add-sum c =
+    let fu : SFits w32 c.args.u.0 = search rules in
+    let fb : SFits w32 c.args.by.0 = search rules in
+    sum_fits _ _ fu fb
 
 pub returns-then-sum-lt-LOWEST : goal.returns-then-sum-lt-LOWEST
-returns-then-sum-lt-LOWEST c = too_low _ _ (fits-u k.before.before) (fits_by k) c.if-sum-lt-LOWEST.true
+returns-then-sum-lt-LOWEST c =
+    let fu : SFits w32 c.args.u.0 = search rules in
+    let fb : SFits w32 c.args.by.0 = search rules in
+    too_low _ _ fu fb c.if-sum-lt-LOWEST.true
 
 pub returns-then-sum-gt-HIGHEST : goal.returns-then-sum-gt-HIGHEST
-returns-then-sum-gt-HIGHEST c = too_high _ _ (fits-u k.before.before) (fits_by k) c.if-sum-lt-LOWEST.false c.if-sum-gt-HIGHEST.true
+returns-then-sum-gt-HIGHEST c =
+    let fu : SFits w32 c.args.u.0 = search rules in
+    let fb : SFits w32 c.args.by.0 = search rules in
+    too_high _ _ fu fb c.if-sum-lt-LOWEST.false c.if-sum-gt-HIGHEST.true
 
 pub overflow_cast-end : goal.overflow_cast-end
-overflow_cast-end c = sum_narrow _ _ (fits-u k.before.before) (fits_by k) c.if-sum-lt-LOWEST.false c.if-sum-gt-HIGHEST.false
+overflow_cast-end c =
+    let fu : SFits w32 c.args.u.0 = search rules in
+    let fb : SFits w32 c.args.by.0 = search rules in
+    sum_narrow _ _ fu fb c.if-sum-lt-LOWEST.false c.if-sum-gt-HIGHEST.false
 
 pub returns : goal.returns
-returns c = in_range_is _ _ (fits-u k.before.before) (fits_by k) c.if-sum-lt-LOWEST.false c.if-sum-gt-HIGHEST.false
+returns c =
+    let fu : SFits w32 c.args.u.0 = search rules in
+    let fb : SFits w32 c.args.by.0 = search rules in
+    in_range_is _ _ fu fb c.if-sum-lt-LOWEST.false c.if-sum-gt-HIGHEST.false
