@@ -1,0 +1,22 @@
+use mathlib.Core.Path.{sym, ◌∙◌}
+use native.Mathlib.Omega.{arith}
+use Rattle.definition.specs.Image.{square}
+use Rattle.units.proofs.AnswerLaws.{index_below}
+use Rattle.image.proofs.DrawnLaws.{drawn_beside, drawn_above, drawn_in}
+use borrow.Author.Rules.{rules}
+use Rattle.image.proofs.plot.Goals as goal
+
+pub returns-in_default : goal.returns-in_default
+returns-in_default c = drawn_beside square _ _ _ c.index_in.ensures c.in_default.is
+
+pub returns-in_default-index_in : goal.returns-in_default-index_in
+returns-in_default-index_in c = drawn_above square _ _ _ c.index_in.ensures c.in-At.is c.index_in-2.ensures c.in_default-index_in.is
+
+pub store-requires : goal.store-requires
+store-requires c =
+    let hx = index_below 512 _ (sym c.index_in.ensures ∙ c.in-At.is) in
+    let hy = index_below 512 _ (sym c.index_in-2.ensures ∙ c.in-At-index_in.is) in
+    omega (arith, c.requires)
+
+pub returns : goal.returns
+returns c = drawn_in square _ _ _ c.index_in.ensures c.in-At.is c.index_in-2.ensures c.in-At-index_in.is c.store.ensures

@@ -1,0 +1,6 @@
+use borrow.Author.Rules.{rules}
+use Rattle.words.proofs.WordLaws.{unsigned}
+use Rattle.words.proofs.coordinate.Goals as goal
+
+pub returns : goal.returns
+returns c = unsigned _ c.move_of.ensures
