@@ -1,0 +1,18 @@
+use Prim.Native.Nat.{◌-◌, ◌*◌, ◌≤◌}
+use mathlib.Core.Path.{◌≡◌, refl, ◌∙◌}
+use native.Mathlib.Omega.{arith}
+use lib.ListN.{length}
+use Rattle.definition.specs.Image.{ink_shape, ink_pen, left}
+use Rattle.definition.specs.Characters.{gathered, cell_pixels}
+use Rattle.image.specs.Drawn.{drawn}
+use Rattle.cells.specs.Cell.{row_at}
+use Rattle.cells.proofs.DrawLaws.{drawn_none, cell_empty, cell_beside, cell_turn, row_at_most}
+use borrow.Author.Rules.{rules}
+use Rattle.cells.proofs.plot_cell.Given as goal
+
+abbrev pub invariant-loop-i : goal.invariant-loop-i
+invariant-loop-i l =
+    (l.i ≤ 8) × (l.count ≤ 8 * l.i) × (length l.image ≡ length l.initial.image) × (left l.count l.image ≡ drawn (ink_shape l.ink) (ink_pen l.ink) l.initial.image (gathered (row_at l.corner l.cell) l.i))
+
+abbrev pub decreases-loop-i : goal.decreases-loop-i
+decreases-loop-i l = 8 - l.i
