@@ -7,9 +7,9 @@ use Rattle.cells.proofs.is_aside.Goals as goal
 pub returns-then-x-lt-LEFTMOST : goal.returns-then-x-lt-LEFTMOST
 returns-then-x-lt-LEFTMOST c =
     let fits-x : SFits w32 c.args.x.0 = search rules in
-    left_of _ fits-x
+    left_of _ fits-x c.if-x-lt-LEFTMOST.true
 
 pub returns : goal.returns
 returns c =
     let fits-x : SFits w32 c.args.x.0 = search rules in
-    not_left_of _ fits-x
+    not_left_of _ fits-x c.if-x-lt-LEFTMOST.false

@@ -1,6 +1,5 @@
 use Prim.Native.Nat.{◌-◌, ◌*◌, ◌≤◌}
 use mathlib.Core.Path.{◌≡◌, refl, ◌∙◌}
-use mathlib.Core.Logic.{⊎_elim}
 use native.Mathlib.Omega.{arith}
 use lib.IntN.{pos}
 use lib.ListN.{length}
@@ -11,6 +10,7 @@ use Rattle.image.specs.Drawn.{drawn}
 use Rattle.cells.specs.Cell.{row_at}
 use Rattle.cells.proofs.DrawLaws.{drawn_none, cell_empty, cell_turn, row_at_most}
 use Rattle.cells.proofs.store_cell.Goals as goal
+use Rattle.cells.proofs.store_cell.Goals.{then-row-ne0, else-row-ne0}
 
 pub loop-i-init : goal.loop-i-init
 unfolding gathered
@@ -43,13 +43,14 @@ pub loop-i-preserved : goal.loop-i-preserved
 loop-i-preserved c =
     let a = c.args in
     let corner = pixel (pos a.x) (pos a.y) in
-    ⊎_elim
-    (λ w.
-    let most = row_at_most _ _ _ _ _ _ w.2.ensures in
-    let t = cell_turn _ _ _ corner a.cell.now c.loop-i.i c.loop-i.invariant.3 refl w.2.ensures in
-    rw (w.5, w.6) (omega arith, omega arith, w.2.kept.0 ∙ c.loop-i.invariant.2, t))
-    (λ w. rw (w.1, w.2) (omega arith, omega arith, c.loop-i.invariant.2, cell_empty _ _ _ corner a.cell.now c.loop-i.i c.loop-i.invariant.3 w.0.left))
-    c.if-row-ne0.branch
+    elim c.if-row-ne0.branch [
+      | then-row-ne0 w ↦
+          let most = row_at_most _ _ _ _ _ _ w.store_row-count.ensures in
+          let t = cell_turn _ _ _ corner a.cell.now c.loop-i.i c.loop-i.invariant.3 refl w.store_row-count.ensures in
+          rw (w.image-is, w.count-is) (omega arith, omega arith, w.store_row-count.auto.image ∙ c.loop-i.invariant.2, t)
+      | else-row-ne0 w ↦
+          rw (w.image-is, w.count-is) (omega arith, omega arith, c.loop-i.invariant.2, cell_empty _ _ _ corner a.cell.now c.loop-i.i c.loop-i.invariant.3 w.if-row-ne0.false)
+    ]
 
 pub shape_of-image : goal.shape_of-image
 shape_of-image c = c.loop-i.invariant.2
