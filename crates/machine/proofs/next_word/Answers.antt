@@ -1,0 +1,5 @@
+use borrow.Author.Rules.{rules}
+use Rattle.machine.proofs.next_word.Goals as goal
+
+pub returns : goal.returns
+returns c = rw (← c.next.ensures) c.fetch.ensures

@@ -1,0 +1,5 @@
+use borrow.Author.Rules.{rules}
+use Rattle.machine.proofs.passed.Goals as goal
+
+pub returns : goal.returns
+returns c = rw (c.completed.ensures, c.next.ensures)
