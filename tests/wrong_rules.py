@@ -254,8 +254,8 @@ def lost_fields():
 
 def copy(where):
     """The definition without its proofs, in a repository of its own."""
-    shutil.copytree(TOP / "crates/whole", where / "crates/whole", ignore=shutil.ignore_patterns("must-fail"))
-    shutil.copytree(TOP / "crates/definition", where / "crates/definition", ignore=shutil.ignore_patterns("must-fail", "proofs"))
+    shutil.copytree(TOP / "crates/whole", where / "crates/whole", ignore=shutil.ignore_patterns("must-fail", "out"))
+    shutil.copytree(TOP / "crates/definition", where / "crates/definition", ignore=shutil.ignore_patterns("must-fail", "out", "proofs"))
     (where / "crates/definition/proofs").mkdir()
     (where / "crates.txt").write_text("whole:\ndefinition: whole\n")
     subprocess.run(["git", "init", "-q", str(where)], check=True)
