@@ -112,7 +112,7 @@ if [ -n "$first" ] && ! agree "$first" $((first + group - 1)) 1; then
     first=$(refused)
 fi
 if [ -z "$first" ]; then
-    tail -n 20 "$work/out"
+    grep -v '^statements ' "$work/out" | tail -n 20
     echo "definition: the prover compared nothing (seed $seed)"
     exit 1
 fi
