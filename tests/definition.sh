@@ -23,7 +23,7 @@ mkdir -p "$work/crates/definition/proofs" "$work/crates/agree/src" "$work/crates
 cp -R crates/whole "$work/crates/whole"
 cp -R crates/definition/src crates/definition/specs "$work/crates/definition"
 cp crates/definition/proofs/Opened.antt "$work/crates/definition/proofs/Opened.antt"
-rm -rf "$work/crates/whole/must-fail"
+rm -rf "$work/crates/whole/must-fail" "$work/crates/whole/out"
 echo 'pub mod Opened' >"$work/crates/definition/proofs/Lib.antt"
 printf 'pub mod Seen\npub mod Files\n' >"$work/crates/agree/proofs/Lib.antt"
 echo '// What second prints for random files, in proofs/. No code.' >"$work/crates/agree/src/lib.rt"
@@ -33,36 +33,33 @@ git init -q "$work"
 
 # What is compared. The stores are listed step by step, since a run keeps no list of them.
 cat >"$work/crates/agree/proofs/Seen.antt" <<'END'
-use Prim.Native.Nat.{ℕ, zero, suc}
-use mathlib.Core.List.{List, [], _∷_, _++_}
-use lib.Dec.{eqb}
-use lib.IntN.{ℤ, pos}
-use Rattle·definition.specs.Choice.{pick, firstOf}
-use Rattle·definition.specs.Units.{pixel}
-use Rattle·definition.specs.Image.{blank}
-use Rattle·definition.specs.Machine.{fresh}
-use Rattle·definition.specs.Step.{Given, step}
-use Rattle·definition.specs.Calls.{plain, given, runDoors}
-use Rattle·definition.specs.Plot.{wordsIn, inputDoors, plotBudget, plotLine}
-use Rattle·definition.specs.declared.Pixel.{Pixel}
-use Rattle·definition.specs.declared.Machine.{Machine}
+use Rattle.std.proofs.Common.{ℕ, zero, suc, List, [], ◌∷◌, ◌++◌, eqb, ℤ, pos}
+use Rattle.definition.specs.Choice.{pick, first_of}
+use Rattle.definition.specs.Units.{pixel}
+use Rattle.definition.specs.Image.{blank}
+use Rattle.definition.specs.Machine.{fresh}
+use Rattle.definition.specs.Step.{Given, step}
+use Rattle.definition.specs.Calls.{plain, given, run_doors}
+use Rattle.definition.specs.Plot.{words_in, input_doors, plot_budget, plot_line}
+use Rattle.definition.specs.declared.Pixel.{Pixel}
+use Rattle.definition.specs.declared.Machine.{Machine}
 
 unfoldable pub stored : Given → ℕ → Machine → List Pixel
 stored g zero m = []
 stored g (suc budget) m =
     let t = step g m in
-    let now = t .pixels ++ stored g budget (t .machine) in
-    pick (eqb (m .status) 0) now []
+    let now = t.pixels ++ stored g budget t.machine in
+    pick (eqb m.status 0) now []
 
 pub data Seen : Type 0 where
   seen : List ℤ → List Pixel → Seen
 
 -- a file that is refused at a door stores nothing
-unfoldable pub seenOf : List ℕ → Seen
-seenOf bytes =
-    let door = firstOf (inputDoors bytes ++ runDoors (plain (wordsIn bytes)) fresh blank plotBudget) in
-    let drawn = stored (given (plain (wordsIn bytes))) plotBudget fresh in
-    seen (plotLine bytes) (pick (eqb door 0) drawn [])
+unfoldable pub seen_of : List ℕ → Seen
+seen_of bytes =
+    let door = first_of (input_doors bytes ++ run_doors (plain (words_in bytes)) fresh blank plot_budget) in
+    let drawn = stored (given (plain (words_in bytes))) plot_budget fresh in
+    seen (plot_line bytes) (pick (eqb door 0) drawn [])
 
 abbrev pub at : ℕ → ℕ → Pixel
 at x y = pixel (pos x) (pos y)
@@ -74,16 +71,15 @@ agree() {
         function whole(n) { return n < 0 ? "negsuc " (-n - 1) : "pos " n }
         function state() {
             # print, since printf has a limit in some awks
-            if (left != "") print "\npub files" from " : (" left "[]) ≡ " right "[]\nunfolding rules builtIn stored seenOf\nfiles" from " = refl"
+            if (left != "") print "\npub files" from " : (" left "[]) ≡ " right "[]\nunfolding rules built_in stored seen_of\nfiles" from " = refl"
             left = right = ""
         }
         BEGIN {
-            print "use mathlib.Core.Path.{_≡_, refl}"
-            print "use mathlib.Core.List.{[], _∷_}"
-            print "use lib.IntN.{pos, negsuc}"
-            print "use Rattle·definition.specs.BuiltIn.{builtIn}"
-            print "use Rattle·definition.proofs.Opened.{rules}"
-            print "use Rattle·agree·proofs.proofs.Seen.{seen, seenOf, stored, at}"
+            print "use Rattle.std.proofs.Common.{[], ◌∷◌, ◌≡◌, refl, pos, negsuc}"
+            print "use Rattle.definition.specs.BuiltIn.{built_in}"
+            print "use Rattle.definition.proofs.Opened.{rules}"
+            print "use Rattle.agree.proofs.Seen.{seen_of, stored, at}"
+            print "use Rattle.agree.proofs.Seen.Seen.{seen}"
         }
         NR < first || NR > last { next }
         {
@@ -95,12 +91,12 @@ agree() {
                 split($i, xy, ",")
                 pixels = pixels "at " xy[1] " " xy[2] " ∷ "
             }
-            left = left "seenOf (" bytes "[]) ∷ "
+            left = left "seen_of (" bytes "[]) ∷ "
             right = right "seen (" line "[]) (" pixels "[]) ∷ "
         }
         (NR - first + 1) % size == 0 { state() }
         END { state() }' "$work/cases" >"$work/crates/agree/proofs/Files.antt" || return 2
-    (cd "$work" && rt check agree) >"$work/out" 2>&1
+    (cd "$work/crates/agree" && rt check) >"$work/out" 2>&1 && grep -q '^logic=proved ' "$work/out"
 }
 
 # The number of the first statement that was refused, if any was.
@@ -116,7 +112,7 @@ if [ -n "$first" ] && ! agree "$first" $((first + group - 1)) 1; then
     first=$(refused)
 fi
 if [ -z "$first" ]; then
-    tail -n 20 "$work/out"
+    grep -v '^statements ' "$work/out" | tail -n 20
     echo "definition: the prover compared nothing (seed $seed)"
     exit 1
 fi

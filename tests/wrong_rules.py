@@ -27,10 +27,10 @@ WRONG, SAME = "wrong", "same"
 # Marked, named, in a file of specs/: the text that stands there once, and what is put in its place.
 RULES = [
     # ---- Image
-    (WRONG, 'field one wider', 'Image', 'below (s .width) (p .x .0)', 'below (1 + s .width) (p .x .0)'),
-    (WRONG, 'field one higher', 'Image', 'below (s .height) (p .y .0)', 'below (1 + s .height) (p .y .0)'),
-    (WRONG, 'field from 1', 'Image', 'leZ (pos 0) z', 'leZ (pos 1) z'),
-    (WRONG, 'field from -1', 'Image', 'leZ (pos 0) z && ltZ z (pos n)', 'ltZ z (pos n)'),
+    (WRONG, 'field one wider', 'Image', 'below s.width p.x.0', 'below (1 + s.width) p.x.0'),
+    (WRONG, 'field one higher', 'Image', 'below s.height p.y.0', 'below (1 + s.height) p.y.0'),
+    (WRONG, 'field from 1', 'Image', 'le_z (pos 0) z', 'le_z (pos 1) z'),
+    (WRONG, 'field from -1', 'Image', 'le_z (pos 0) z && lt_z z (pos n)', 'lt_z z (pos n)'),
     (WRONG, 'row of 129', 'Image', 'row = 128', 'row = 129'),
     (WRONG, '3 digits a byte', 'Image', 'digits = 4', 'digits = 3'),
     (WRONG, 'base 3', 'Image', 'base = 4', 'base = 3'),
@@ -38,7 +38,7 @@ RULES = [
     (WRONG, 'blank of 1', 'Image', 'replicate image_bytes 0', 'replicate image_bytes 1'),
     (WRONG, 'units Y 4', 'Image', 'units_y = 2', 'units_y = 4'),
     (WRONG, 'units X 4', 'Image', 'units_x = 2', 'units_x = 4'),
-    (WRONG, 'x y swapped in pixelAt', 'Image', 'record { x = pixels_of (s .units_x) x; y = pixels_of (s .units_y) y }', 'record { x = pixels_of (s .units_x) y; y = pixels_of (s .units_y) x }'),
+    (WRONG, 'x y swapped in pixelAt', 'Image', 'record { x = pixels_of s.units_x x; y = pixels_of s.units_y y }', 'record { x = pixels_of s.units_x y; y = pixels_of s.units_y x }'),
     (WRONG, 'putDigit keeps too little', 'Image', '* b ^ k + byte % b ^ k', '* b ^ k'),
     (WRONG, 'putDigit loses above', 'Image', '(byte / (b ^ k * b) * b + v)', 'v'),
     (WRONG, 'put ors', 'Image', '(byte / (b ^ k * b) * b + v) * b ^ k + byte % b ^ k', 'byte + v * b ^ k'),
@@ -66,17 +66,17 @@ RULES = [
     (WRONG, 'seven columns', 'Characters', '(pixel (x +ℤ pos k) y ∷ []) []) 8', '(pixel (x +ℤ pos k) y ∷ []) []) 7'),
     (WRONG, 'bottom row first', 'Characters', 'pos (7 - r)', 'pos r'),
     (WRONG, 'corner one up', 'Characters', 'pos (7 - r)', 'pos (8 - r)'),
-    (WRONG, 'seven rows', 'Characters', '(getD cell r 0)) 8', '(getD cell r 0)) 7'),
+    (WRONG, 'seven rows', 'Characters', '(get_or cell r 0)) 8', '(get_or cell r 0)) 7'),
     (WRONG, 'advance of 8', 'Step', 'advance = 16', 'advance = 8'),
     (WRONG, 'one advance a word', 'Step', 'way (Move (units (pos (2 * advance)))) Stay', 'way (Move (units (pos advance))) Stay'),
     (WRONG, 'Y advances', 'Step', 'way (Move (units (pos (2 * advance)))) Stay', 'way Stay (Move (units (pos (2 * advance))))'),
-    (WRONG, 'second over the first', 'Step', 'character_at (g .set) m (moved (m .x) (units (pos advance))) (m .y) second', 'character_at (g .set) m (m .x) (m .y) second'),
-    (WRONG, 'one character a word', 'Step', 'character_at (g .set) m (m .x) (m .y) first\n    ++ character_at', 'character_at'),
+    (WRONG, 'second over the first', 'Step', 'character_at g.set m (moved m.x (units (pos advance))) m.y second', 'character_at g.set m m.x m.y second'),
+    (WRONG, 'one character a word', 'Step', 'character_at g.set m m.x m.y first\n    ++ character_at', 'character_at'),
     (WRONG, '18 of 761', 'Calls', 'eqb (length set) 0 || eqb (length set) set_bytes', 'eqb (length set) 0 || eqb (length set) set_bytes || eqb (length set) 761'),
     (WRONG, '18 of none', 'Calls', 'eqb (length set) 0 || eqb (length set) set_bytes', 'eqb (length set) set_bytes'),
     (WRONG, '18 never', 'Calls', '18 when not (eqb (length set) 0 || eqb (length set) set_bytes) ∷ []', '[]'),
-    (WRONG, '18 after 28', 'Calls', 'set_doors (l .set) ∷ running_doors m ∷ []', 'running_doors m ∷ set_doors (l .set) ∷ []'),
-    (WRONG, '18 before 17', 'Calls', 'budget_doors b ∷ set_doors (l .set) ∷', 'set_doors (l .set) ∷ budget_doors b ∷'),
+    (WRONG, '18 after 28', 'Calls', 'set_doors l.set ∷ running_doors m ∷ []', 'running_doors m ∷ set_doors l.set ∷ []'),
+    (WRONG, '18 before 17', 'Calls', 'budget_doors b ∷ set_doors l.set ∷', 'set_doors l.set ∷ budget_doors b ∷'),
     # ---- File
     (WRONG, 'tag 2', 'File', 'not (eqb (tag f) 1)', 'not (eqb (tag f) 2)'),
     (WRONG, 'n to 9', 'File', 'ltb 8 (segments f)', 'ltb 9 (segments f)'),
@@ -92,13 +92,13 @@ RULES = [
     (WRONG, 'sum below', 'File', 'leb (start + long) words', 'ltb (start + long) words'),
     (WRONG, 'last segment not asked', 'File', 'keep_below f (suc i) = keeps (header f) (length f) (offset f i) (size f i) && keep_below f i', 'keep_below f (suc i) = keep_below f i'),
     (WRONG, 'only first', 'File', 'keep_below f (segments f)', 'keep_below f 1'),
-    (WRONG, 'offset size swapped', 'File', 'offset f i = getD f (2 + 2 * i) 0', 'offset f i = getD f (3 + 2 * i) 0'),
+    (WRONG, 'offset size swapped', 'File', 'offset f i = get_or f (2 + 2 * i) 0', 'offset f i = get_or f (3 + 2 * i) 0'),
     (WRONG, 'segment by w/4095', 'File', 'a / 2 / 4096', 'a / 2 / 4095'),
     (WRONG, 'place mod 4095', 'File', 'a / 2 % 4096', 'a / 2 % 4095'),
     (WRONG, 'odd taken', 'File', 'pick (not (eqb (a % 2) 0)) (Refused Odd)\n    (pick', '(pick'),
     (WRONG, 'segment n taken', 'File', 'leb (segments f) (segment_of a)', 'ltb (segments f) (segment_of a)'),
     (WRONG, 'place at length', 'File', 'leb (size f (segment_of a)) (place_of a)', 'ltb (size f (segment_of a)) (place_of a)'),
-    (WRONG, 'no offset in fetch', 'File', '(Word (getD f (offset f (segment_of a) + place_of a) 0))', '(Word (getD f (header f + place_of a) 0))'),
+    (WRONG, 'no offset in fetch', 'File', '(Word (get_or f (offset f (segment_of a) + place_of a) 0))', '(Word (get_or f (header f + place_of a) 0))'),
     (WRONG, '21 22 numbers', 'File', 'number_of NoSegment = 22', 'number_of NoSegment = 21'),
     # ---- Words
     (WRONG, 'code bits', 'Words', 'code w = bits 14 11 w', 'code w = bits 13 11 w'),
@@ -133,10 +133,10 @@ RULES = [
     # ---- Machine
     (WRONG, 'no wrap', 'Machine', 'next c = (c + 2) % 2 ^ 16', 'next c = c + 2'),
     (WRONG, 'counter by 1', 'Machine', 'next c = (c + 2) % 2 ^ 16', 'next c = (c + 1) % 2 ^ 16'),
-    (WRONG, 'range low', 'Machine', 'leZ (negsuc 4095) (u .0)', 'leZ (negsuc 4096) (u .0)'),
-    (WRONG, 'range low2', 'Machine', 'leZ (negsuc 4095) (u .0)', 'leZ (negsuc 4094) (u .0)'),
-    (WRONG, 'range high', 'Machine', 'leZ (u .0) (pos 4095)', 'leZ (u .0) (pos 4096)'),
-    (WRONG, 'range high2', 'Machine', 'leZ (u .0) (pos 4095)', 'leZ (u .0) (pos 4094)'),
+    (WRONG, 'range low', 'Machine', 'le_z (negsuc 4095) u.0', 'le_z (negsuc 4096) u.0'),
+    (WRONG, 'range low2', 'Machine', 'le_z (negsuc 4095) u.0', 'le_z (negsuc 4094) u.0'),
+    (WRONG, 'range high', 'Machine', 'le_z u.0 (pos 4095)', 'le_z u.0 (pos 4096)'),
+    (WRONG, 'range high2', 'Machine', 'le_z u.0 (pos 4095)', 'le_z u.0 (pos 4094)'),
     (WRONG, 'mode 0 out of range', 'Machine', 'eqb k none || sets_mode k', 'eqb k none || leb 1 k && sets_mode k'),
     (WRONG, 'among the first', 'Choice', 'among n (k ∷ ks) = eqb n k || among n ks', 'among n (k ∷ ks) = eqb n k'),
     (WRONG, 'status 3', 'Machine', 'statuses = 0 ∷ 1 ∷ 2 ∷ refusal_numbers', 'statuses = 0 ∷ 1 ∷ 2 ∷ 3 ∷ refusal_numbers'),
@@ -145,10 +145,10 @@ RULES = [
     (WRONG, 'no status 32', 'Machine', '∷ 27 ∷ 32 ∷ []', '∷ 27 ∷ []'),
     (WRONG, 'status 20', 'Machine', 'refusal_numbers = 21 ∷', 'refusal_numbers = 20 ∷ 21 ∷'),
     (WRONG, 'status 26', 'Machine', '∷ 26 ∷ 27 ∷ 32 ∷ []', '∷ 26 ∷ 32 ∷ []'),
-    (WRONG, 'value 4', 'Machine', 'ltb (m .value) (shape_of m .base)', 'leb (m .value) (shape_of m .base)'),
-    (WRONG, 'increment 64', 'Machine', 'leb (m .increment) 63', 'leb (m .increment) 64'),
-    (WRONG, 'increment 62', 'Machine', 'leb (m .increment) 63', 'leb (m .increment) 62'),
-    (WRONG, 'y not asked', 'Machine', '    && in_range (m .y)\n', ''),
+    (WRONG, 'value 4', 'Machine', 'ltb m.value (shape_of m).base', 'leb m.value (shape_of m).base'),
+    (WRONG, 'increment 64', 'Machine', 'leb m.increment 63', 'leb m.increment 64'),
+    (WRONG, 'increment 62', 'Machine', 'leb m.increment 63', 'leb m.increment 62'),
+    (WRONG, 'y not asked', 'Machine', '    && in_range m.y\n', ''),
     (WRONG, 'fresh value 2', 'Machine', 'value = 3; write = true', 'value = 2; write = true'),
     (WRONG, 'fresh write off', 'Machine', 'value = 3; write = true', 'value = 3; write = false'),
     (WRONG, 'fresh latch on', 'Machine', 'latch = false; increment = 0; status = 0 }\n\n', 'latch = true; increment = 0; status = 0 }\n\n'),
@@ -158,50 +158,50 @@ RULES = [
     (WRONG, 'start keeps status', 'Machine', 'with_status (with_counter m a) 0', 'with_counter m a'),
     (WRONG, 'start keeps counter', 'Machine', 'with_status (with_counter m a) 0', 'with_status m 0'),
     (WRONG, 'start clears latch', 'Machine', 'with_status (with_counter m a) 0', 'with_latch (with_status (with_counter m a) 0) false'),
-    (WRONG, 'pen 3', 'Image', 'ink_pen k old = k .value', 'ink_pen k old = 3'),
+    (WRONG, 'pen 3', 'Image', 'ink_pen k old = k.value', 'ink_pen k old = 3'),
     # ---- Step
     (WRONG, 'graph moves other', 'Step', 'item_way g (GraphY y) v = way (Move (units (pos g))) (Set y)', 'item_way g (GraphY y) v = way Stay (Set y)'),
     (WRONG, 'graph X moves', 'Step', 'item_way g (GraphX x) v = way (Set x) (Move (units (pos g)))', 'item_way g (GraphX x) v = way (Set x) Stay'),
     (WRONG, 'abs Y moves', 'Step', 'way (Set x) (Set (coordinate v))', 'way (Set x) (Move (coordinate v))'),
-    (WRONG, 'relative plots start', 'Step', 'item_pixels g m (RelativePoint dx dy) v = point_at m (moved (m .x) dx) (moved (m .y) dy)', 'item_pixels g m (RelativePoint dx dy) v = point_at m (m .x) (m .y)'),
-    (WRONG, 'relative draws', 'Step', 'item_pixels g m (RelativePoint dx dy) v = point_at m (moved (m .x) dx) (moved (m .y) dy)', 'item_pixels g m (RelativePoint dx dy) v = vector_by m dx dy'),
-    (WRONG, 'absolute plots start', 'Step', 'item_pixels g m (AbsolutePoint x) v = point_at m x (coordinate v)', 'item_pixels g m (AbsolutePoint x) v = point_at m (m .x) (m .y)'),
+    (WRONG, 'relative plots start', 'Step', 'item_pixels g m (RelativePoint dx dy) v = point_at m (moved m.x dx) (moved m.y dy)', 'item_pixels g m (RelativePoint dx dy) v = point_at m m.x m.y'),
+    (WRONG, 'relative draws', 'Step', 'item_pixels g m (RelativePoint dx dy) v = point_at m (moved m.x dx) (moved m.y dy)', 'item_pixels g m (RelativePoint dx dy) v = vector_by m dx dy'),
+    (WRONG, 'absolute plots start', 'Step', 'item_pixels g m (AbsolutePoint x) v = point_at m x (coordinate v)', 'item_pixels g m (AbsolutePoint x) v = point_at m m.x m.y'),
     (WRONG, 'long Y by X', 'Step', 'item_pixels g m (LongVector dx) v = vector_by m dx (long v)', 'item_pixels g m (LongVector dx) v = vector_by m dx dx'),
-    (WRONG, 'cut, and drawn afresh', 'Step', '(inside (shape_of m) (item_pixels g m it v)) []', '(let p = pixel_at (shape_of m) (m .x) (m .y) in let cut = inside (shape_of m) (item_pixels g m it v) in inside (shape_of m) (vector (lib.ListN.getD cut 0 p) (lib.ListN.getD (mathlib.Core.List.reverse cut) 0 p))) []'),
-    (WRONG, 'unlit stored', 'Step', 'pick (lit && m .write)', 'pick (m .write)'),
-    (WRONG, 'stop 1 2', 'Step', '(pick (m .latch) 2 1)', '(pick (m .latch) 1 2)'),
-    (WRONG, 'latch always', 'Step', '(with_latch m (pick (b .loads) (b .latch) (m .latch)))', '(with_latch m (b .latch))'),
-    (WRONG, 'value always', 'Step', 'with_mode m (b .mode) (pick (b .sets) (b .value) (m .value))', 'with_mode m (b .mode) (b .value)'),
-    (WRONG, 'increment always', 'Step', 'with_increment m (pick (b .sets) (b .increment) (m .increment))', 'with_increment m (b .increment)'),
-    (WRONG, 'write any channel', 'Step', 'with_write m (pick (eqb (b .channel) 0) (b .write) (m .write))', 'with_write m (b .write)'),
-    (WRONG, 'jump adds', 'Step', 'pick (jumps o) v (next (m .counter))', 'pick (jumps o) (next (next (m .counter))) (next (m .counter))'),
-    (WRONG, '27 x only', 'Step', '27 when (leaves (m .x) (w .x) || leaves (m .y) (w .y)) ∷ []', '27 when leaves (m .x) (w .x) ∷ []'),
-    (WRONG, '27 y only', 'Step', '27 when (leaves (m .x) (w .x) || leaves (m .y) (w .y)) ∷ []', '27 when leaves (m .y) (w .y) ∷ []'),
-    (WRONG, 'no 24', 'Step', '    ∷ first_refusals (m .mode) (word_in got)\n', ''),
+    (WRONG, 'cut, and drawn afresh', 'Step', '(inside (shape_of m) (item_pixels g m it v)) []', '(let p = pixel_at (shape_of m) m.x m.y in let cut = inside (shape_of m) (item_pixels g m it v) in inside (shape_of m) (vector (get_or cut 0 p) (get_or (reverse cut) 0 p))) []'),
+    (WRONG, 'unlit stored', 'Step', 'pick (lit && m.write)', 'pick m.write'),
+    (WRONG, 'stop 1 2', 'Step', '(pick m.latch 2 1)', '(pick m.latch 1 2)'),
+    (WRONG, 'latch always', 'Step', '(with_latch m (pick b.loads b.latch m.latch))', '(with_latch m b.latch)'),
+    (WRONG, 'value always', 'Step', 'with_mode m b.mode (pick b.sets b.value m.value)', 'with_mode m b.mode b.value'),
+    (WRONG, 'increment always', 'Step', 'with_increment m (pick b.sets b.increment m.increment)', 'with_increment m b.increment'),
+    (WRONG, 'write any channel', 'Step', 'with_write m (pick (eqb b.channel 0) b.write m.write)', 'with_write m b.write'),
+    (WRONG, 'jump adds', 'Step', 'pick (jumps o) v (next m.counter)', 'pick (jumps o) (next (next m.counter)) (next m.counter)'),
+    (WRONG, '27 x only', 'Step', '27 when (leaves m.x w.x || leaves m.y w.y) ∷ []', '27 when leaves m.x w.x ∷ []'),
+    (WRONG, '27 y only', 'Step', '27 when (leaves m.x w.x || leaves m.y w.y) ∷ []', '27 when leaves m.y w.y ∷ []'),
+    (WRONG, 'no 24', 'Step', '    ∷ first_refusals m.mode (word_in got)\n', ''),
     (WRONG, 'second fetch not asked', 'Step', '    ∷ only_if (has_second i) (fetch_refusals more)\n', ''),
     (WRONG, 'second fetch always', 'Step', 'only_if (has_second i) (fetch_refusals more)', 'fetch_refusals more'),
     (SAME, '26 before second fetch', 'Step', '    ∷ only_if (has_second i) (fetch_refusals more)\n    ∷ only_if (is_paired i) (second_refusals (word_in more))', '    ∷ only_if (is_paired i) (second_refusals (word_in more))\n    ∷ only_if (has_second i) (fetch_refusals more)'),
-    (WRONG, '27 before 26', 'Step', '    ∷ only_if (is_paired i) (second_refusals (word_in more))\n    ∷ way_refusals m (way_of (m .increment) i (word_in more))', '    ∷ way_refusals m (way_of (m .increment) i (word_in more))\n    ∷ only_if (is_paired i) (second_refusals (word_in more))'),
-    (SAME, '24 after second fetch', 'Step', '    ∷ first_refusals (m .mode) (word_in got)\n    ∷ only_if (has_second i) (fetch_refusals more)', '    ∷ only_if (has_second i) (fetch_refusals more)\n    ∷ first_refusals (m .mode) (word_in got)'),
+    (WRONG, '27 before 26', 'Step', '    ∷ only_if (is_paired i) (second_refusals (word_in more))\n    ∷ way_refusals m (way_of m.increment i (word_in more))', '    ∷ way_refusals m (way_of m.increment i (word_in more))\n    ∷ only_if (is_paired i) (second_refusals (word_in more))'),
+    (SAME, '24 after second fetch', 'Step', '    ∷ first_refusals m.mode (word_in got)\n    ∷ only_if (has_second i) (fetch_refusals more)', '    ∷ only_if (has_second i) (fetch_refusals more)\n    ∷ first_refusals m.mode (word_in got)'),
     (WRONG, 'words of refused', 'Step', 'refuses m why = record { machine = with_status m why; steps = 0; words = 0', 'refuses m why = record { machine = with_status m why; steps = 0; words = 1'),
     (WRONG, 'words always 1', 'Step', 'words = words_of i; pixels', 'words = 1; pixels'),
     # ---- Run
-    (WRONG, 'stores 1', 'Run', 'stores = length (t .pixels)', 'stores = t .steps'),
-    (WRONG, 'words by steps', 'Run', 'words = t .words; stores', 'words = t .steps; stores'),
-    (WRONG, 'run ignores status', 'Run', 'pick (eqb (s .machine .status) 0) rest s', 'rest'),
-    (WRONG, 'counts not summed', 'Run', 'counts = summed (s .counts) (counted t)', 'counts = counted t'),
+    (WRONG, 'stores 1', 'Run', 'stores = length t.pixels', 'stores = t.steps'),
+    (WRONG, 'words by steps', 'Run', 'words = t.words; stores', 'words = t.steps; stores'),
+    (WRONG, 'run ignores status', 'Run', 'pick (eqb s.machine.status 0) rest s', 'rest'),
+    (WRONG, 'counts not summed', 'Run', 'counts = summed s.counts (counted t)', 'counts = counted t'),
     # ---- Calls
     (WRONG, 'budget 999999', 'Calls', 'ltb 1000000 b', 'ltb 999999 b'),
     (WRONG, 'budget more', 'Calls', 'ltb 1000000 b', 'ltb 1000001 b'),
-    (WRONG, '28 never', 'Calls', '28 when not (eqb (m .status) 0) ∷ []', '[]'),
+    (WRONG, '28 never', 'Calls', '28 when not (eqb m.status 0) ∷ []', '[]'),
     (WRONG, '11 not for run', 'Calls', 'joined (image_doors im ∷ file_doors', 'joined (file_doors'),
-    (WRONG, '11 after file', 'Calls', 'image_doors im ∷ file_doors (l .file) ∷', 'file_doors (l .file) ∷ image_doors im ∷'),
+    (WRONG, '11 after file', 'Calls', 'image_doors im ∷ file_doors l.file ∷', 'file_doors l.file ∷ image_doors im ∷'),
     (WRONG, '17 before 16', 'Calls', 'machine_doors m ∷ budget_doors b', 'budget_doors b ∷ machine_doors m'),
     (WRONG, 'start refused sets', 'Calls', 'pick (eqb n 0) (started_at m a) m', 'started_at m a'),
     (WRONG, 'clear refused clears', 'Calls', 'left n (pick (eqb n 0) blank im)', 'left n blank'),
     (WRONG, 'clear nothing', 'Calls', 'left n (pick (eqb n 0) blank im)', 'left n im'),
     (WRONG, 'read 31 first', 'Calls', 'image_doors im ++ field_doors s p', 'field_doors s p ++ image_doors im'),
-    (WRONG, 'read value 1', 'Calls', '(natAbs (p .y .0))) 0 }', '(natAbs (p .y .0))) 1 }'),
+    (WRONG, 'read value 1', 'Calls', '(nat_abs p.y.0)) 0 }', '(nat_abs p.y.0)) 1 }'),
     (WRONG, 'turned counts', 'Calls', 'turned_away m im n = left (uncounted m n) im', 'turned_away m im n = left (uncounted (with_status m n) n) im'),
     # ---- Plot
     (WRONG, 'high byte first', 'Plot', '(low + 256 * high)', '(high + 256 * low)'),
@@ -210,8 +210,8 @@ RULES = [
     (WRONG, '19 at 65536', 'Plot', 'ltb 65536 (length bytes)', 'ltb 65535 (length bytes)'),
     (WRONG, '19 after doors', 'Plot', 'input_doors bytes ++ run_doors (plain (words_in bytes)) fresh blank plot_budget', 'run_doors (plain (words_in bytes)) fresh blank plot_budget ++ input_doors bytes'),
     (WRONG, 'budget 100', 'Plot', 'plot_budget = 1000', 'plot_budget = 100'),
-    (WRONG, 'line order', 'Plot', 'pos (r .counts .words) ∷ pos (r .counts .stores)', 'pos (r .counts .stores) ∷ pos (r .counts .words)'),
-    (WRONG, 'line x y', 'Plot', 'r .machine .x .0 ∷ r .machine .y .0 ∷ []', 'r .machine .y .0 ∷ r .machine .x .0 ∷ []'),
+    (WRONG, 'line order', 'Plot', 'pos r.counts.words ∷ pos r.counts.stores', 'pos r.counts.stores ∷ pos r.counts.words'),
+    (WRONG, 'line x y', 'Plot', 'r.machine.x.0 ∷ r.machine.y.0 ∷ []', 'r.machine.y.0 ∷ r.machine.x.0 ∷ []'),
     (WRONG, 'refused line', 'Plot', 'refused_line n = pos n ∷ pos 0', 'refused_line n = pos n ∷ pos 1'),
     # ---- Vector
     (WRONG, 'by one always up', 'Vector', 'by_one start (negsuc _) i = start -ℤ pos i', 'by_one start (negsuc _) i = start +ℤ pos i'),
@@ -223,8 +223,9 @@ RULES = [
 
 # What some of them name besides.
 IMPORTS = {
-    "Vector": [("_*_, max}", "_*_, max, min}")],
-    "Calls": [("Machine.{startedAt, machineDoors}", "Machine.{startedAt, withStatus, machineDoors}")],
+    "Vector": [("◌*◌, max, List", "◌*◌, max, min, List")],
+    "Calls": [("Machine.{started_at, machine_doors}", "Machine.{started_at, with_status, machine_doors}")],
+    "Step": [("◌∷◌, ◌++◌, eqb, pos}", "◌∷◌, ◌++◌, get_or, reverse, eqb, pos}")],
 }
 
 # The with-functions of Machine: each keeps every field but its own. A step begins with status 0 and sets the counter last, so those two
@@ -234,8 +235,8 @@ CONSTANTS = {
     "write": "true", "latch": "false", "increment": "0", "status": "0",
 }
 UNSEEN = {
-    ("withPosition", "status"), ("withWrite", "counter"), ("withWrite", "status"), ("withLatch", "status"),
-    ("withIncrement", "counter"), ("withIncrement", "status"),
+    ("with_position", "status"), ("with_write", "counter"), ("with_write", "status"), ("with_latch", "status"),
+    ("with_increment", "counter"), ("with_increment", "status"),
 }
 
 
@@ -244,7 +245,7 @@ def lost_fields():
     for line in (TOP / "crates/definition/specs/Machine.antt").read_text().split("\n"):
         head = re.match(r"(with\w+) m .* = record \{.*\}", line)
         for field, constant in CONSTANTS.items() if head else []:
-            lost = re.sub(rf"\b{field} = m \.{field}\b", f"{field} = {constant}", line)
+            lost = re.sub(rf"\b{field} = m\.{field}\b", f"{field} = {constant}", line)
             if lost != line:
                 kind = SAME if (head[1], field) in UNSEEN else WRONG
                 rules.append((kind, f"{head[1]} loses {field}", "Machine", line, lost))
@@ -253,25 +254,21 @@ def lost_fields():
 
 def copy(where):
     """The definition without its proofs, in a repository of its own."""
-    shutil.copytree(TOP / "crates/whole", where / "crates/whole", ignore=shutil.ignore_patterns("must-fail"))
-    shutil.copytree(TOP / "crates/definition", where / "crates/definition", ignore=shutil.ignore_patterns("must-fail", "proofs"))
+    shutil.copytree(TOP / "crates/whole", where / "crates/whole", ignore=shutil.ignore_patterns("must-fail", "out"))
+    shutil.copytree(TOP / "crates/definition", where / "crates/definition", ignore=shutil.ignore_patterns("must-fail", "out", "proofs"))
     (where / "crates/definition/proofs").mkdir()
     (where / "crates.txt").write_text("whole:\ndefinition: whole\n")
     subprocess.run(["git", "init", "-q", str(where)], check=True)
 
 
 def text(name):
-    """A file of examples, as it reads in the copy."""
-    if name not in WHOLE_IMAGES:
-        return (TOP / "crates/definition/proofs" / f"{name}.antt").read_text()
-    whole = (TOP / "crates/worked/proofs" / f"{name}.antt").read_text()
-    for part in ["specs", "proofs"]:
-        whole = whole.replace(f"Rattle·definition.{part}", f"Rattle·definition·{part}.{part}")
-    return whole
+    """A file of examples."""
+    crate = "worked" if name in WHOLE_IMAGES else "definition"
+    return (TOP / "crates" / crate / "proofs" / f"{name}.antt").read_text()
 
 
-def definition(command, where, names):
-    """What rt says of the copy with these files of examples."""
+def definition(where, names):
+    """Whether the copy is proved with these files of examples, and what rt says of it."""
     proofs = where / "crates/definition/proofs"
     for name in EXAMPLES + WHOLE_IMAGES:
         path = proofs / f"{name}.antt"
@@ -280,7 +277,8 @@ def definition(command, where, names):
         elif name not in names:
             path.unlink(missing_ok=True)
     (proofs / "Lib.antt").write_text("".join(f"pub mod {name}\n" for name in names))
-    return subprocess.run(["rt", command, "definition"], cwd=where, stdout=subprocess.PIPE, stderr=subprocess.STDOUT, text=True)
+    ran = subprocess.run(["rt", "check"], cwd=proofs.parent, stdout=subprocess.PIPE, stderr=subprocess.STDOUT, text=True)
+    return ran.returncode == 0 and re.search("^logic=proved ", ran.stdout, re.M) is not None, ran.stdout
 
 
 def examples(name):
@@ -297,15 +295,17 @@ def refusal(where, rule):
         return f"its text stands in {file}.antt {right.count(old)} times", False
     wrong = right.replace(old, new)
     for a, b in IMPORTS.get(file, []):
+        if wrong.count(a) != 1:
+            return f"the import '{a}' stands in {file}.antt {wrong.count(a)} times", False
         wrong = wrong.replace(a, b)
     path.write_text(wrong)
-    ran = definition("dev", where, EXAMPLES)
-    if ran.returncode == 0:
-        ran = definition("dev", where, EXAMPLES + WHOLE_IMAGES)
+    proved, said = definition(where, EXAMPLES)
+    if proved:
+        proved, said = definition(where, EXAMPLES + WHOLE_IMAGES)
     path.write_text(right)
-    if ran.returncode == 0:
+    if proved:
         return None
-    first = re.search(r"(\w+)/(\w+)\.antt:\d+:\d+: error: (?:`(\S+)`)?", ran.stdout)
+    first = re.search(r"(\w+)/(\w+)\.antt:\d+:\d+: error: (?:`(\S+)`)?", said)
     if not first:
         return "no error was printed", False
     folder, name, what = first.groups()
@@ -319,9 +319,9 @@ def tried(rules):
         where = pathlib.Path(scratch)
         copy(where)
         # With no rule changed the copy must be proved; else a refusal says nothing.
-        ran = definition("check", where, EXAMPLES + WHOLE_IMAGES)
-        if ran.returncode != 0:
-            sys.exit("the examples refuse the rules as they are, so that nothing is tried:\n" + ran.stdout[-2000:])
+        proved, said = definition(where, EXAMPLES + WHOLE_IMAGES)
+        if not proved:
+            sys.exit("the examples refuse the rules as they are, so that nothing is tried:\n" + said[-2000:])
         for rule in rules:
             got = refusal(where, rule)
             if rule[0] == WRONG and got is None:

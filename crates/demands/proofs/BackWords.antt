@@ -70,14 +70,14 @@ module _ (g : Given) (m : Machine) (dx dy : Units) where
   words_are = ⊎_elim (λ r. inl (short_is r)) (λ r. inr (long_is r, r.upward))
 
   -- and it is not refused where its end is in range
-  module _ (fits : Fits m) (x-in : InRange (moved m.x dx)) (y-in : InRange (moved m.y dy)) where
+  module _ (fits : Fits m) (x_in : InRange (moved m.x dx)) (y_in : InRange (moved m.y dy)) where
     ends_in : (i : Instruction) → instruction g m ≡ i → (way_of m.increment i (more g m) ≡ way (Move dx) (Move dy)) → Continues g m → refusal g m ≡ 0
     ends_in i e w c =
         (refused_0 g m fits).1 (
           c,
           (
-            subst (λ (j : Instruction). InRange (changed m.x (way_of m.increment j (more g m)).x)) (sym e) (rw w x-in),
-            subst (λ (j : Instruction). InRange (changed m.y (way_of m.increment j (more g m)).y)) (sym e) (rw w y-in),
+            subst (λ (j : Instruction). InRange (changed m.x (way_of m.increment j (more g m)).x)) (sym e) (rw w x_in),
+            subst (λ (j : Instruction). InRange (changed m.y (way_of m.increment j (more g m)).y)) (sym e) (rw w y_in),
           ),
         )
 
@@ -87,13 +87,13 @@ module _ (g : Given) (m : Machine) (dx dy : Units) where
         (λ r. ends_in _ (long_is r) (ap (λ (d : Units). way (Move dx) (Move d)) r.upward) ((two_words g m r.data_word (let e = r.mode in omega arith) (let e = r.mode in omega arith) (r.data_word, inl r.mode)).1 (r.fetched, (r.fetched_too, r.data_too))))
 
 -- ---- there and back
-module _ (g : Given) (m : Machine) (dx dy : Units) (fits : Fits m) (x-in : InRange (moved m.x dx)) (y-in : InRange (moved m.y dy))
+module _ (g : Given) (m : Machine) (dx dy : Units) (fits : Fits m) (x_in : InRange (moved m.x dx)) (y_in : InRange (moved m.y dy))
     (there : VectorWords g m dx dy) (turned : VectorWords g (step g m).machine (negated dx) (negated dy)) where
   abbrev m' : Machine
   m' = (step g m).machine
 
   free : refusal g m ≡ 0
-  free = words_complete g m dx dy fits x-in y-in there
+  free = words_complete g m dx dy fits x_in y_in there
 
   gone : m' ≡ with_position (with_counter m m'.counter) (moved m.x dx) (moved m.y dy)
   gone = back.after_machine g m dx dy free (words_are g m dx dy there)

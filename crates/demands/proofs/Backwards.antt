@@ -85,7 +85,7 @@ back_pixels m m' dx dy ex ey =
     (vector_turned (pixel_at (shape_of m) m.x m.y) (pixel_at (shape_of m) (moved m.x dx) (moved m.y dy)))
 
 module _ (g : Given) (m : Machine) (dx dy : Units) (free : refusal g m ≡ 0) (is : VectorBy g m dx dy)
-    (Free-back : refusal g (step g m).machine ≡ 0) (is-back : VectorBy g (step g m).machine (negated dx) (negated dy)) where
+    (free_back : refusal g (step g m).machine ≡ 0) (is_back : VectorBy g (step g m).machine (negated dx) (negated dy)) where
   abbrev m' : Machine
   m' = (step g m).machine
 
@@ -93,14 +93,14 @@ module _ (g : Given) (m : Machine) (dx dy : Units) (free : refusal g m ≡ 0) (i
   pub back_machine : (step g m').machine ≡ with_counter m (step g m').machine.counter
   back_machine =
       let c = (step g m').machine.counter in
-      after_machine g m' (negated dx) (negated dy) Free-back is-back
+      after_machine g m' (negated dx) (negated dy) free_back is_back
       ∙ ap (λ (n : Machine). with_position (with_counter n c) (moved n.x (negated dx)) (moved n.y (negated dy))) (after_machine g m dx dy free is)
       ∙ ap (λ (u : Units). with_position (with_counter m c) u (moved (moved m.y dy) (negated dy))) (back_again m.x dx)
       ∙ ap (with_position (with_counter m c) m.x) (back_again m.y dy)
 
   pub back_stores : (step g m').pixels ≡ reverse (step g m).pixels
   back_stores =
-      its_pixels g m' (negated dx) (negated dy) Free-back is-back
+      its_pixels g m' (negated dx) (negated dy) free_back is_back
       ∙ ap (shown m') (back_pixels m m' dx dy (after_x g m dx dy free is) (after_y g m dx dy free is))
       ∙ ap (λ (on : Bool). pick on (inside (shape_of m) (reverse (vector_by m dx dy))) []) (after_pen g m dx dy free is).1
       ∙ shown_reverse m (vector_by m dx dy)

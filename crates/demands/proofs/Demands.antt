@@ -281,7 +281,7 @@ plot_ran = others.plot_run
 
 -- ==== Demand 2
 
--- ---- the plot comes before the step (of characters: character-stores and character-word, in Drawing.antt)
+-- ---- the plot comes before the step (of characters: character_stores and character_word, in Drawing.antt)
 -- words of graph Y, lit or blank, run one after the other from any position with room for their steps: the whole state after them
 pub graph_y_plots_then_steps : (g : Given) (s : State) (ws : List ℕ) → Ready AlongX g s ws → run g (length ws) s ≡ plotted AlongX s ws
 graph_y_plots_then_steps = graphs.plot_then_step AlongX
@@ -292,14 +292,14 @@ graph_x_plots_then_steps = graphs.plot_then_step AlongY
 -- of which: word k stands at the pixel of (start + k x increment, its value), and word 0 at that of the start's own column; for graph X, row
 pub week_k : (h : Shape) (x : ℤ) (g k : ℕ) (ws : List ℕ) (d : Pixel) → k < length ws
     → get_or (weeks AlongX h x g 0 ws) k d ≡ pixel_at h (units (x +ℤ pos (k * g))) (coordinate (get_or ws k 0))
-week_k = graphs.week_at AlongX
+week_k = graphs.week_at_is AlongX
 
 pub week_0 : (h : Shape) (x : ℤ) (g w : ℕ) (ws : List ℕ) (d : Pixel) → get_or (weeks AlongX h x g 0 (w ∷ ws)) 0 d ≡ pixel_at h (units x) (coordinate w)
 week_0 = graphs.first_week AlongX
 
 pub row_k : (h : Shape) (y : ℤ) (g k : ℕ) (ws : List ℕ) (d : Pixel) → k < length ws
     → get_or (weeks AlongY h y g 0 ws) k d ≡ pixel_at h (coordinate (get_or ws k 0)) (units (y +ℤ pos (k * g)))
-row_k = graphs.week_at AlongY
+row_k = graphs.week_at_is AlongY
 
 pub row_0 : (h : Shape) (y : ℤ) (g w : ℕ) (ws : List ℕ) (d : Pixel) → get_or (weeks AlongY h y g 0 (w ∷ ws)) 0 d ≡ pixel_at h (coordinate w) (units y)
 row_0 = graphs.first_week AlongY
@@ -343,7 +343,7 @@ nothing_left_out = drift.completed_all
 pub pixel_floor : (d : ℕ) (u : Units) (p : ℤ) → 0 < d → ((pixels_of d u).0 ≡ p) ↔ (((pos d *ℤ p) ≤ℤ u.0) × (u.0 <ℤ (pos d *ℤ p +ℤ pos d)))
 pixel_floor = near.pixel_floor
 
--- ---- a vector's pixels lie near the exact line (that a run stores them: vector-origin and vector-drawn, in Drawing.antt)
+-- ---- a vector's pixels lie near the exact line (that a run stores them: vector_origin and vector_drawn, in Drawing.antt)
 -- there are n + 1 of them; pixel 0 is its start's, and pixel n its end's
 pub vector_length : (a b : Pixel) → length (vector a b) ≡ suc (longer a b)
 vector_length = vectors.vector_length

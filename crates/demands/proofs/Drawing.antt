@@ -33,7 +33,7 @@ use Rattle.demands.proofs.VectorOrigins as vectors
 use Rattle.demands.proofs.Standing as stands
 use Rattle.demands.proofs.Graphs as graphs
 use Rattle.demands.proofs.WeekStrokes as in_order
-use Rattle.demands.proofs.Weeks as seen-weeks
+use Rattle.demands.proofs.Weeks as seen_weeks
 use Rattle.demands.proofs.Characters as letters
 use Rattle.demands.proofs.BuiltIn as set
 use Rattle.demands.proofs.BackWords as words
@@ -44,7 +44,7 @@ use Rattle.demands.proofs.BackWords as words
 pub run_image : (g : Given) (b : ℕ) (s : State) → (run g b s).image ≡ drawn s.image (strokes g b s)
 run_image = all.run_image
 
--- the counts are of these strokes, and of the words of the completed instructions (of the instructions themselves: nothing-left-out)
+-- the counts are of these strokes, and of the words of the completed instructions (of the instructions themselves: nothing_left_out)
 pub run_stores : (g : Given) (b : ℕ) (s : State) → (run g b s).counts.stores ≡ s.counts.stores + length (strokes g b s)
 run_stores = all.run_stores
 
@@ -133,7 +133,7 @@ module _ (g : Given) (b : ℕ) (s : State) (fits : Fits s.machine) where
     pub changed_by : (seen square (run g b s).image p ≡ seen square s.image p → ⊥) → During g b s (λ m. Plots g m p × (m.value ≡ seen square (run g b s).image p))
     changed_by = stands.changed_by g b s fits l p f
 
--- ==== Graph words, lit or blank, on either axis (the state after them: graph-y-plots-then-steps and graph-x-plots-then-steps of Demands.antt)
+-- ==== Graph words, lit or blank, on either axis (the state after them: graph_y_plots_then_steps and graph_x_plots_then_steps of Demands.antt)
 
 module _ (axis : Axis) (g : Given) (s : State) (ws : List ℕ) (r : Ready axis g s ws) where
   -- their strokes: the places of the lit ones in the field, in the order of the words, while write is on; each stored with the pen that the machine has before them
@@ -148,25 +148,25 @@ module _ (axis : Axis) (g : Given) (s : State) (ws : List ℕ) (r : Ready axis g
     -- after them each lit one in the field reads the pixel value at its place: k increments from the start, at its own value
     pub week_k_reads : (k : ℕ) → length s.image ≡ image_bytes → s.machine.write ≡ true → k < length ws → On 14 (get_or ws k 0) → InField square (week_at axis s.machine ws k)
         → read_call square (run g (length ws) s).image (week_at axis s.machine ws k) ≡ record { answer = 0; digit = s.machine.value }
-    week_k_reads = seen-weeks.week_reads axis g s ws r fits
+    week_k_reads = seen_weeks.week_reads axis g s ws r fits
 
     -- and every pixel that is not the place of a lit one reads as before
     pub no_week_reads : (p : Pixel) → ((k : ℕ) → k < length ws → On 14 (get_or ws k 0) → p ≡ week_at axis s.machine ws k → ⊥)
         → read_call square (run g (length ws) s).image p ≡ read_call square s.image p
-    no_week_reads = seen-weeks.no_week_reads axis g s ws r fits
+    no_week_reads = seen_weeks.no_week_reads axis g s ws r fits
 
 -- the same of a call, with a budget of as many steps as there are words: all that it answers and leaves, and what a reader sees of it
 module _ (axis : Axis) (l : Lent) (m : Machine) (im ws : List ℕ) (o : Open l m im (length ws)) (r : Ready axis (given l) (begun m im) ws) where
   pub call_weeks : run_call l m im (length ws) ≡ answered (plotted axis (begun m im) ws)
-  call_weeks = seen-weeks.call_weeks axis l m im ws o r
+  call_weeks = seen_weeks.call_weeks axis l m im ws o r
 
   pub call_week_reads : (k : ℕ) → m.write ≡ true → k < length ws → On 14 (get_or ws k 0) → InField square (week_at axis m ws k)
       → read_call square (run_call l m im (length ws)).image (week_at axis m ws k) ≡ record { answer = 0; digit = m.value }
-  call_week_reads = seen-weeks.call_week_reads axis l m im ws o r
+  call_week_reads = seen_weeks.call_week_reads axis l m im ws o r
 
   pub call_no_week_reads : (p : Pixel) → ((k : ℕ) → k < length ws → On 14 (get_or ws k 0) → p ≡ week_at axis m ws k → ⊥)
       → read_call square (run_call l m im (length ws)).image p ≡ read_call square im p
-  call_no_week_reads = seen-weeks.call_no_week_reads axis l m im ws o r
+  call_no_week_reads = seen_weeks.call_no_week_reads axis l m im ws o r
 
 -- where every word is lit, all their places are
 pub all_lit : (axis : Axis) (h : Shape) (x : ℤ) (g j : ℕ) (ws : List ℕ) → AllLit ws → of_lit ws (weeks axis h x g j ws) ≡ weeks axis h x g j ws
@@ -196,14 +196,14 @@ pub character_word : (g : Given) (m : Machine) → refusal g m ≡ 0 → Off 15 
 character_word = letters.character_word
 
 -- with write on it stores a pixel exactly when it is in the field, and lit by the cell of the first code at the position's pixel or by that of the second at
--- the pixel of 16 units further right (with write off it stores none: else-stores-none)
+-- the pixel of 16 units further right (with write off it stores none: else_stores_none)
 pub character_stores : (g : Given) (m : Machine) → refusal g m ≡ 0 → Off 15 (word g m) → m.mode ≡ 0 → m.write ≡ true
     → (p : Pixel) → Among p (step g m).pixels ↔ (InField (shape_of m) p × ByCharacters g m p)
 character_stores = letters.character_stores
 
 -- the second cell stands directly to the right of the first
 pub second_corner_is : (m : Machine) → second_corner m ≡ pixel ((first_corner m).x.0 +ℤ pos 8) (first_corner m).y.0
-second_corner_is = letters.second_corner
+second_corner_is = letters.second_corner_is
 
 -- so of a run: a stroke of mode 0 is of it exactly when such a word, completed from a running machine, which is the stroke's own, lights its pixel
 pub character_origin : (g : Given) (b : ℕ) (s : State) (t : Stroke)
@@ -257,27 +257,27 @@ lent_set_serves = set.lent_set_serves
 
 -- ==== There and back: the words of a lit vector whose end is in range, and from its end the words of the vector with both moves negated
 
-module _ (g : Given) (m : Machine) (dx dy : Units) (fits : Fits m) (x-in : InRange (moved m.x dx)) (y-in : InRange (moved m.y dy))
+module _ (g : Given) (m : Machine) (dx dy : Units) (fits : Fits m) (x_in : InRange (moved m.x dx)) (y_in : InRange (moved m.y dy))
     (there : VectorWords g m dx dy) (back : VectorWords g (step g m).machine (negated dx) (negated dy)) where
   -- neither is refused, and after both the machine is as before, but for its counter
   pub both_complete : (refusal g m ≡ 0) × (refusal g (step g m).machine ≡ 0)
-  both_complete = words.both_complete g m dx dy fits x-in y-in there back
+  both_complete = words.both_complete g m dx dy fits x_in y_in there back
 
   pub there_and_back : (step g (step g m).machine).machine ≡ with_counter m (step g (step g m).machine).machine.counter
-  there_and_back = words.there_and_back g m dx dy fits x-in y-in there back
+  there_and_back = words.there_and_back g m dx dy fits x_in y_in there back
 
   -- the same pixels are stored, in the reverse order
   pub back_stores : (step g (step g m).machine).pixels ≡ reverse (step g m).pixels
-  back_stores = words.back_stores g m dx dy fits x-in y-in there back
+  back_stores = words.back_stores g m dx dy fits x_in y_in there back
 
   module _ (running : m.status ≡ 0) (im : List ℕ) where
     -- on the same first image the two leave the same image
     pub back_image : (run g 1 (begun (step g m).machine im)).image ≡ (run g 1 (begun m im)).image
-    back_image = words.back_image g m dx dy fits x-in y-in there back running im
+    back_image = words.back_image g m dx dy fits x_in y_in there back running im
 
     -- and the way back, drawn over the first vector, changes nothing
     pub back_over : length im ≡ image_bytes → (run g 2 (begun m im)).image ≡ (run g 1 (begun m im)).image
-    back_over = words.back_over g m dx dy fits x-in y-in there back running im
+    back_over = words.back_over g m dx dy fits x_in y_in there back running im
 
 -- the moves of a word are negated by the same word with its signs turned, where their sizes are not zero
 pub turned_short : (w w' : ℕ) → bits 12 7 w' ≡ bits 12 7 w → bits 5 0 w' ≡ bits 5 0 w → Turned (bits 12 7 w) (bit 13 w) (bit 13 w') → Turned (bits 5 0 w) (bit 6 w) (bit 6 w')
