@@ -34,6 +34,10 @@ use Rattle.items.proofs.CountLaws.{stored_few}
 use Rattle.machine.specs.Rest.{draws_letters, later_step}
 use Rattle.run.specs.Walked.{state, Within, awake, Walked}
 
+-- the counts, as the loop has them
+abbrev pub counts : ℕ → ℕ → ℕ → Counts
+counts steps words stores = record { steps = steps; words = words; stores = stores }
+
 -- ---- a machine that is put off or not
 -- the machine that a run goes on from
 unfoldable pub woken : Machine → Machine
@@ -126,7 +130,7 @@ module _ (g : Given) (m : Machine) (im : List ℕ) {r : Stepped} {im' : List ℕ
 pub record Turn (set : List ℕ) (g : Given) (m : Machine) (im : List ℕ) (r : Stepped) (im' : List ℕ) : Type 0 where
   pub few : Within 1 r.counts
   pub stops : r.counts.steps ≡ 0 → r.machine.status ≡ 0 → ⊥
-  pub in_range_is : ranged (woken r.machine) ≡ true
+  pub in_range : ranged (woken r.machine) ≡ true
   pub none : r.machine.status ≡ no_set → length set ≡ 0
   pub next : (budget : ℕ) (c : Counts) → c.steps < budget
       → run g (budget - c.steps) (state (woken m) im c) ≡ run g (budget - (c.steps + r.counts.steps)) (state (woken r.machine) im' (summed c r.counts))
@@ -145,7 +149,7 @@ module _ (set : List ℕ) (g : Given) (m : Machine) (im : List ℕ) (k : ranged 
       record {
         few = step_few g m im e h;
         stops = step_stops g m im e;
-        in_range_is = ap ranged w ∙ i;
+        in_range = ap ranged w ∙ i;
         none = λ q. absurd (in_range_not r.machine i q);
         next = λ b c p. as_it_is (b - c.steps) c ∙ step_next g m im e b c h p z ∙ ap (λ (n : Machine). run g (b - (c.steps + r.counts.steps)) (state n im' (summed c r.counts))) (sym w);
       }
@@ -156,7 +160,7 @@ module _ (set : List ℕ) (g : Given) (m : Machine) (im : List ℕ) (k : ranged 
       record {
         few = record { steps = omega arith; words = omega arith; stores = omega arith };
         stops = λ _ q. absurd (omega (arith, q));
-        in_range_is = ap ranged w ∙ h;
+        in_range = ap ranged w ∙ h;
         none = λ _. n;
         next = λ b c p. as_it_is (b - c.steps) c ∙ ap (λ (t : Counts). run g (b - t.steps) (state m im t)) (sym (summed_nothing c)) ∙ ap (λ (k : Machine). run g (b - (c.steps + 0)) (state k im (summed c (told (refuses m no_set)).counts))) (sym w);
       }

@@ -1,0 +1,25 @@
+use Prim.Native.Nat.{ℕ, ◌-◌}
+use mathlib.Core.Bool.{true}
+use mathlib.Core.Path.{◌≡◌, refl, sym, ap, ◌∙◌}
+use native.Mathlib.Omega.{arith}
+use lib.ListN.{length}
+use Rattle.definition.specs.Machine.{ranged}
+use Rattle.definition.specs.Run.{begun, run}
+use Rattle.definition.specs.Characters.{chosen}
+use Rattle.definition.specs.Calls.{lending, given}
+use Rattle.definition.specs.declared.Counts.{Counts}
+use Rattle.outcome.specs.Outcome.{no_set}
+use Rattle.run.specs.Walked.{state, Within}
+use Rattle.run.proofs.RunLaws.{counts, woken, in_range_not, woken_in_range, running_in_range, ahead, ahead_less, turn, run_whole, spent, stopped}
+use Rattle.run.proofs.walk.Given as goal
+
+abbrev pub invariant-loop-steps : goal.invariant-loop-steps
+invariant-loop-steps l =
+    (length l.image ≡ length l.initial.image)
+    × (ranged (woken l.here) ≡ true)
+    × Within l.budget (counts l.steps l.words l.stores)
+    × (l.here.status ≡ no_set → length (chosen l.lent l.built) ≡ 0)
+    × (run (given (lending l.file l.lent)) (l.budget - l.steps) (state (woken l.here) l.image (counts l.steps l.words l.stores)) ≡ run (given (lending l.file l.lent)) l.budget (begun l.initial.here l.initial.image))
+
+abbrev pub decreases-loop-steps : goal.decreases-loop-steps
+decreases-loop-steps l = ahead (l.budget - l.steps) l.here.status
