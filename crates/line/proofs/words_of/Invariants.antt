@@ -1,0 +1,14 @@
+use Prim.Native.Nat.{◌-◌, ◌/◌, ◌≤◌}
+use mathlib.Core.Path.{◌≡◌, refl}
+use native.Mathlib.Omega.{arith}
+use lib.ListN.{length, drop, length-set}
+use Rattle.line.proofs.WordsLaws.{same_after, Begun, one_more, all_there}
+use borrow.Author.Rules.{rules}
+use Rattle.line.proofs.words_of.Given as goal
+
+abbrev pub invariant-loop-i : goal.invariant-loop-i
+invariant-loop-i l =
+    (l.i ≤ l.n) × (l.n ≡ length l.bytes / 2) × (l.n ≤ length l.words) × (length l.words ≡ length l.initial.words) × Begun l.bytes l.words l.i × (drop l.i l.words ≡ drop l.i l.initial.words)
+
+abbrev pub decreases-loop-i : goal.decreases-loop-i
+decreases-loop-i l = l.n - l.i
