@@ -8,16 +8,15 @@ use Rattle.screen.proofs.draw.Goals as goal
 
 pub returns-then-bytes-ne0 : goal.returns-then-bytes-ne0
 returns-then-bytes-ne0 c =
-    let blank-again : c.clear.new.0 ≡ blank = c.clear.ensures ∙ cleared_is_blank _ (omega arith) in
-    odd _ _ _ blank-again (omega arith)
+    let blank_again : c.clear.new.image ≡ blank = c.clear.ensures ∙ cleared_is_blank _ (omega arith) in
+    odd _ _ _ blank_again (omega arith)
 
 pub returns-then-bytes-gt65536 : goal.returns-then-bytes-gt65536
 returns-then-bytes-gt65536 c =
-    let blank-again : c.clear.new.0 ≡ blank = c.clear.ensures ∙ cleared_is_blank _ (omega arith) in
-    too_long _ _ _ blank-again (omega arith)
+    let blank_again : c.clear.new.image ≡ blank = c.clear.ensures ∙ cleared_is_blank _ (omega arith) in
+    too_long _ _ _ blank_again (omega arith)
 
 pub returns : goal.returns
 returns c =
-    let blank-again : c.clear.new.0 ≡ blank = c.clear.ensures ∙ cleared_is_blank _ (omega arith) in
-    let cleared = blank-again in
-    ran _ _ _ cleared (omega arith) (omega arith) c.words_of-n.ensures.1.0 c.fresh.ensures c.run-ran.ensures
+    let blank_again : c.clear.new.image ≡ blank = c.clear.ensures ∙ cleared_is_blank _ (omega arith) in
+    ran _ _ _ blank_again (omega arith) (omega arith) c.words_of-n.ensures.words_after c.fresh.ensures c.run-ran.ensures

@@ -1,12 +1,10 @@
+use mathlib.Core.List.{List, ◌++◌}
+use mathlib.Core.Path.{ap}
+use Prim.Native.Nat.{ℕ}
+use lib.ListN.{drop}
 use Rattle.screen.proofs.PictureLaws.{whole}
 use borrow.Author.Rules.{rules}
 use Rattle.screen.proofs.picture_of.Goals as goal
 
-slice-aggregate-copy : tie.Need-slice-aggregate-copy
-slice-aggregate-copy c = search rules
-
-copy-requires : tie.Need-copy-requires
-copy-requires c κs = search rules
-
 pub returns : goal.returns
-returns c = whole _ _ _ c.??copy.ensures.1 c.put_rows.ensures
+returns c = whole _ _ _ (ap (λ (l : List ℕ). l ++ drop 13 c.args.picture.now) c.copy_from_slice.ensures.after) c.put_rows.ensures
