@@ -29,24 +29,24 @@ step-taken-requires c =
 
 pub overflow_add-steps : goal.overflow_add-steps
 overflow_add-steps c =
-    let few : Within 1 c.step-taken.result.counts = (turn (chosen _ _) (given (lending _ _)) _ _ c.loop-steps.invariant.1 c.if-here-ne0.false c.step-taken.ensures).few in
-    omega (arith, few, c.loop-steps.invariant.2, c.requires.2)
+    let few_steps : Within 1 c.step-taken.result.counts = (turn (chosen _ _) (given (lending _ _)) _ _ c.loop-steps.invariant.1 c.if-here-ne0.false c.step-taken.ensures).few in
+    omega (arith, few_steps, c.loop-steps.invariant.2, c.requires.2)
 
 pub overflow_add-words : goal.overflow_add-words
 overflow_add-words c =
-    let few : Within 1 c.step-taken.result.counts = (turn (chosen _ _) (given (lending _ _)) _ _ c.loop-steps.invariant.1 c.if-here-ne0.false c.step-taken.ensures).few in
-    omega (arith, few, c.loop-steps.invariant.2, c.requires.2)
+    let few_words : Within 1 c.step-taken.result.counts = (turn (chosen _ _) (given (lending _ _)) _ _ c.loop-steps.invariant.1 c.if-here-ne0.false c.step-taken.ensures).few in
+    omega (arith, few_words, c.loop-steps.invariant.2, c.requires.2)
 
 pub overflow_add-stores : goal.overflow_add-stores
 overflow_add-stores c =
-    let few : Within 1 c.step-taken.result.counts = (turn (chosen _ _) (given (lending _ _)) _ _ c.loop-steps.invariant.1 c.if-here-ne0.false c.step-taken.ensures).few in
-    omega (arith, few, c.loop-steps.invariant.2, c.requires.2)
+    let few_stores : Within 1 c.step-taken.result.counts = (turn (chosen _ _) (given (lending _ _)) _ _ c.loop-steps.invariant.1 c.if-here-ne0.false c.step-taken.ensures).few in
+    omega (arith, few_stores, c.loop-steps.invariant.2, c.requires.2)
 
 pub loop-steps-smaller : goal.loop-steps-smaller
 loop-steps-smaller c =
     let l = c.loop-steps in
-    let t = turn (chosen _ _) (given (lending _ _)) _ _ l.invariant.1 c.if-here-ne0.false c.step-taken.ensures in
-    ahead_less _ _ _ _ _ c.loop-steps-test.true t.few.steps c.if-here-ne0.false t.stops
+    let turned = turn (chosen _ _) (given (lending _ _)) _ _ l.invariant.1 c.if-here-ne0.false c.step-taken.ensures in
+    ahead_less _ _ _ _ _ c.loop-steps-test.true turned.few.steps c.if-here-ne0.false turned.stops
 
 pub loop-steps-preserved : goal.loop-steps-preserved
 loop-steps-preserved c =
