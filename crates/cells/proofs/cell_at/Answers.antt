@@ -3,7 +3,6 @@ use mathlib.Core.Path.{◌≡◌}
 use native.Mathlib.Omega.{arith}
 use Rattle.definition.specs.Characters.{cell_of}
 use Rattle.cells.proofs.CellLaws.{code_bounds}
-use borrow.Author.Rules.{rules}
 use Rattle.cells.proofs.cell_at.Goals as goal
 
 pub overflow_sub-start : goal.overflow_sub-start

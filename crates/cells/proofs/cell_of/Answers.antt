@@ -3,7 +3,6 @@ use mathlib.Core.Path.{ap, ◌∙◌}
 use mathlib.Core.List.{List}
 use lib.ListN.{length}
 use Rattle.definition.specs.Characters.{cell_of}
-use borrow.Author.Rules.{rules}
 use Rattle.cells.proofs.cell_of.Goals as goal
 
 pub cell_at-requires : goal.cell_at-requires

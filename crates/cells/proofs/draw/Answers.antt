@@ -2,7 +2,6 @@ use mathlib.Core.Path.{sym, refl, ◌∙◌}
 use native.Mathlib.Omega.{arith}
 use Rattle.units.proofs.AnswerLaws.{index_below}
 use Rattle.cells.proofs.DrawLaws.{cell_aside, cell_inside}
-use borrow.Author.Rules.{rules}
 use Rattle.cells.proofs.draw.Goals as goal
 
 pub returns-then-is_aside : goal.returns-then-is_aside

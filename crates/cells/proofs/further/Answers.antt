@@ -1,5 +1,4 @@
 use Rattle.cells.proofs.CellLaws.{further_fits, further_is}
-use borrow.Author.Rules.{rules}
 use Rattle.cells.proofs.further.Goals as goal
 
 pub overflow_add-result : goal.overflow_add-result

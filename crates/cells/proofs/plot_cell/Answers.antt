@@ -1,13 +1,8 @@
-use Prim.Native.Nat.{◌-◌, ◌*◌, ◌≤◌}
+use Prim.Native.Nat.{◌≤◌}
 use mathlib.Core.Path.{◌≡◌, refl, ◌∙◌}
 use native.Mathlib.Omega.{arith}
-use lib.ListN.{length}
-use Rattle.definition.specs.Image.{ink_shape, ink_pen, left}
 use Rattle.definition.specs.Characters.{gathered, cell_pixels}
-use Rattle.image.specs.Drawn.{drawn}
-use Rattle.cells.specs.Cell.{row_at}
 use Rattle.cells.proofs.DrawLaws.{drawn_none, cell_empty, cell_beside, cell_turn, row_at_most}
-use borrow.Author.Rules.{rules}
 use Rattle.cells.proofs.plot_cell.Goals as goal
 
 pub loop-i-init : goal.loop-i-init

@@ -1,13 +1,10 @@
 use Prim.Native.Nat.{◌-◌, ◌*◌, ◌≤◌}
-use mathlib.Core.Path.{◌≡◌, refl, ◌∙◌}
-use native.Mathlib.Omega.{arith}
+use mathlib.Core.Path.{◌≡◌}
 use lib.ListN.{length}
 use Rattle.definition.specs.Image.{ink_shape, ink_pen, left}
-use Rattle.definition.specs.Characters.{gathered, cell_pixels}
+use Rattle.definition.specs.Characters.{gathered}
 use Rattle.image.specs.Drawn.{drawn}
 use Rattle.cells.specs.Cell.{row_at}
-use Rattle.cells.proofs.DrawLaws.{drawn_none, cell_empty, cell_beside, cell_turn, row_at_most}
-use borrow.Author.Rules.{rules}
 use Rattle.cells.proofs.plot_cell.Given as goal
 
 abbrev pub invariant-loop-i : goal.invariant-loop-i

@@ -1,13 +1,9 @@
-use Prim.Native.Nat.{◌-◌, ◌≤◌}
+use Prim.Native.Nat.{◌≤◌}
 use mathlib.Core.Path.{◌≡◌, refl, ap, ◌∙◌}
 use native.Mathlib.Omega.{arith}
-use lib.ListN.{length}
-use Rattle.definition.specs.Image.{ink_shape, ink_pen, left}
 use Rattle.definition.specs.Characters.{gathered, row_pixels}
 use Rattle.definition.specs.declared.Pixels.{Pixels}
 use Rattle.definition.specs.declared.Pixel.{Pixel}
-use Rattle.image.specs.Drawn.{drawn}
-use Rattle.cells.specs.Cell.{bit_pixels}
 use Rattle.cells.proofs.DrawLaws.{drawn_none, row_turn, bit_at_most}
 use Rattle.cells.proofs.plot_row.Goals as goal
 

@@ -1,6 +1,5 @@
 use native.Mathlib.Omega.{arith}
 use Rattle.cells.proofs.DrawLaws.{outside_both, inside_both, between}
-use borrow.Author.Rules.{rules}
 use Rattle.cells.proofs.start_of.Goals as goal
 
 pub returns-in_default : goal.returns-in_default

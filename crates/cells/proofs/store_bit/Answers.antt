@@ -1,5 +1,4 @@
 use Rattle.cells.proofs.DrawLaws.{bit_stored, bit_clear}
-use borrow.Author.Rules.{rules}
 use Rattle.cells.proofs.store_bit.Goals as goal
 
 pub returns-then-on : goal.returns-then-on

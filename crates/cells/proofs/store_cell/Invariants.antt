@@ -1,15 +1,12 @@
 use Prim.Native.Nat.{◌-◌, ◌*◌, ◌≤◌}
-use mathlib.Core.Path.{◌≡◌, refl, ◌∙◌}
-use mathlib.Core.Logic.{⊎_elim}
-use native.Mathlib.Omega.{arith}
+use mathlib.Core.Path.{◌≡◌}
 use lib.IntN.{pos}
 use lib.ListN.{length}
 use Rattle.definition.specs.Units.{pixel}
 use Rattle.definition.specs.Image.{ink_shape, ink_pen, left}
-use Rattle.definition.specs.Characters.{gathered, cell_pixels}
+use Rattle.definition.specs.Characters.{gathered}
 use Rattle.image.specs.Drawn.{drawn}
 use Rattle.cells.specs.Cell.{row_at}
-use Rattle.cells.proofs.DrawLaws.{drawn_none, cell_empty, cell_turn, row_at_most}
 use Rattle.cells.proofs.store_cell.Given as goal
 
 abbrev pub invariant-loop-i : goal.invariant-loop-i

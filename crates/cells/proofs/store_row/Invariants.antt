@@ -1,13 +1,11 @@
 use Prim.Native.Nat.{◌-◌, ◌≤◌}
-use mathlib.Core.Path.{◌≡◌, refl, ◌∙◌}
-use native.Mathlib.Omega.{arith}
+use mathlib.Core.Path.{◌≡◌}
 use lib.IntN.{pos}
 use lib.ListN.{length}
 use Rattle.definition.specs.Image.{ink_shape, ink_pen, left}
-use Rattle.definition.specs.Characters.{gathered, row_pixels}
+use Rattle.definition.specs.Characters.{gathered}
 use Rattle.image.specs.Drawn.{drawn}
 use Rattle.cells.specs.Cell.{bit_pixels}
-use Rattle.cells.proofs.DrawLaws.{drawn_none, row_turn, bit_at_most}
 use Rattle.cells.proofs.store_row.Given as goal
 
 abbrev pub invariant-loop-k : goal.invariant-loop-k

@@ -1,4 +1,4 @@
-use Rattle.std.proofs.Common.{◌≤◌, mul-le-mul_left, arith, rules}
+use Rattle.std.proofs.Common.{◌≤◌, mul-le-mul_left, arith}
 use Rattle.course.proofs.GoneLaws.{product_fits}
 use Rattle.course.proofs.FieldLaws.{arrives_never, arrives_at}
 use Rattle.course.proofs.arrives.Goals as goal

@@ -1,4 +1,4 @@
-use Rattle.std.proofs.Common.{◌≡◌, ◌+◌, ◌-◌, ◌^◌, arith, rules, le-leb}
+use Rattle.std.proofs.Common.{◌≡◌, ◌+◌, ◌-◌, ◌^◌, arith, le-leb}
 use borrow.Author.Tests.{lt-leb}
 use Rattle.course.specs.Course.{axis_of}
 use Rattle.course.proofs.axis_of.Goals as goal

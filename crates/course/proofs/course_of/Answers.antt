@@ -1,4 +1,4 @@
-use Rattle.std.proofs.Common.{arith, rules}
+use Rattle.std.proofs.Common.{arith}
 use Rattle.course.proofs.AxisLaws.{down_least, course_across, course_upright}
 use Rattle.course.proofs.course_of.Goals as goal
 

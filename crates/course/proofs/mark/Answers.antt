@@ -1,4 +1,4 @@
-use Rattle.std.proofs.Common.{arith, rules}
+use Rattle.std.proofs.Common.{arith}
 use Rattle.course.proofs.GoneLaws.{carried_less, top_fits}
 use Rattle.course.proofs.FieldLaws.{visible_is}
 use Rattle.course.proofs.MarkLaws.{number_most, start_number, mark_first}

@@ -1,4 +1,4 @@
-use Rattle.std.proofs.Common.{arith, rules}
+use Rattle.std.proofs.Common.{arith}
 use Rattle.course.proofs.MarkLaws.{paces_are}
 use Rattle.course.proofs.paces_of.Goals as goal
 

@@ -1,4 +1,4 @@
-use Rattle.std.proofs.Common.{◌≤◌, mul-le-mul, arith, rules}
+use Rattle.std.proofs.Common.{◌≤◌, mul-le-mul, arith}
 use Rattle.course.proofs.MarkLaws.{part_up, part_down}
 use Rattle.course.proofs.part.Goals as goal
 

@@ -1,5 +1,4 @@
 use Rattle.course.proofs.FieldLaws.{spans}
-use Rattle.std.proofs.Common.{rules}
 use Rattle.course.proofs.span_of.Goals as goal
 
 pub returns : goal.returns

@@ -1,4 +1,4 @@
-use Rattle.std.proofs.Common.{arith, rules, le-ltb, lt-ltb}
+use Rattle.std.proofs.Common.{arith, le-ltb, lt-ltb}
 use Rattle.course.specs.Course.{stepped}
 use Rattle.course.proofs.step.Goals as goal
 

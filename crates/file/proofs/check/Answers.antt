@@ -1,5 +1,4 @@
 use native.Mathlib.Omega.{arith}
-use borrow.Author.Rules.{rules}
 use Rattle.file.proofs.FileLaws.{too_short, tag_not_1, no_segments, too_many, header_cut, segment_wrong, all_right}
 use Rattle.file.proofs.check.Goals as goal
 

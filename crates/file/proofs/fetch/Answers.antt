@@ -1,5 +1,4 @@
 use native.Mathlib.Omega.{arith}
-use borrow.Author.Rules.{rules}
 use Rattle.file.proofs.FileLaws.{at_odd, no_segment, no_place, a_word}
 use Rattle.file.proofs.fetch.Goals as goal
 

@@ -1,5 +1,4 @@
 use native.Mathlib.Omega.{arith}
-use borrow.Author.Rules.{rules}
 use Rattle.file.proofs.FileLaws.{starts_early, too_long, ends_outside, ends_within}
 use Rattle.file.proofs.segment_keeps.Goals as goal
 

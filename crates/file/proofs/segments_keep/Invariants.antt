@@ -1,9 +1,6 @@
 use Prim.Native.Nat.{◌≤◌}
 use mathlib.Core.Path.{◌≡◌}
-use native.Mathlib.Omega.{arith}
-use borrow.Author.Rules.{rules}
 use Rattle.definition.specs.File.{segments, keep_below}
-use Rattle.file.proofs.FileLaws.{one_fails, one_keeps, none_left}
 use Rattle.file.proofs.segments_keep.Given as goal
 
 abbrev pub invariant-loop-segment : goal.invariant-loop-segment

@@ -1,9 +1,9 @@
-use Prim.Native.Nat.{ℕ, ◌-◌, ◌≤◌}
+use Prim.Native.Nat.{ℕ}
 use mathlib.Core.Path.{◌≡◌, refl, ap, ◌∙◌}
 use mathlib.Core.List.{List, ◌++◌, append-nil}
 use native.Mathlib.Omega.{arith}
 use borrow.Author.Fill.{fill_none, fill_more}
-use lib.ListN.{length, replicate, drop, set, length-set}
+use lib.ListN.{length, replicate, set, length-set}
 use lib.Seq.{drop-length}
 use Rattle.image.specs.Drawn.{cleared}
 use Rattle.image.proofs.clear.Goals as goal

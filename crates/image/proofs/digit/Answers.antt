@@ -1,5 +1,4 @@
 use Rattle.image.proofs.DigitLaws.{shifted_digit}
-use borrow.Author.Rules.{rules}
 use Rattle.image.proofs.digit.Goals as goal
 
 pub returns : goal.returns

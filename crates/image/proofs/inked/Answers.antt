@@ -1,6 +1,5 @@
 use mathlib.Core.Path.{refl}
 use Rattle.image.specs.Ink.{inked}
-use borrow.Author.Rules.{rules}
 use Rattle.image.proofs.inked.Goals as goal
 
 pub returns : goal.returns

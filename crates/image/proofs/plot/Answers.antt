@@ -3,7 +3,6 @@ use native.Mathlib.Omega.{arith}
 use Rattle.definition.specs.Image.{square}
 use Rattle.units.proofs.AnswerLaws.{index_below}
 use Rattle.image.proofs.DrawnLaws.{drawn_beside, drawn_above, drawn_in}
-use borrow.Author.Rules.{rules}
 use Rattle.image.proofs.plot.Goals as goal
 
 pub returns-in_default : goal.returns-in_default

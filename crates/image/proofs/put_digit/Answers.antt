@@ -1,5 +1,4 @@
 use Rattle.image.proofs.DigitLaws.{put}
-use borrow.Author.Rules.{rules}
 use Rattle.image.proofs.put_digit.Goals as goal
 
 pub returns : goal.returns

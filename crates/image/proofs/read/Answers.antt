@@ -1,5 +1,4 @@
 use Rattle.definition.specs.Image.{byte_of, digit_at}
-use borrow.Author.Rules.{rules}
 use Rattle.image.proofs.read.Goals as goal
 
 pub returns : goal.returns

@@ -1,5 +1,4 @@
 use Rattle.image.proofs.StoredLaws.{stored}
-use borrow.Author.Rules.{rules}
 use Rattle.image.proofs.store.Goals as goal
 
 pub returns : goal.returns

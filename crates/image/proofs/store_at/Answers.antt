@@ -1,7 +1,6 @@
 use Prim.Native.Nat.{◌/◌}
 use native.Mathlib.Omega.{arith}
 use Rattle.image.proofs.InkLaws.{stored_at}
-use borrow.Author.Rules.{rules}
 use Rattle.image.proofs.store_at.Goals as goal
 
 pub returns : goal.returns

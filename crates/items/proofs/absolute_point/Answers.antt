@@ -1,4 +1,3 @@
-use borrow.Author.Rules.{rules}
 use Rattle.definition.specs.Step.{point_at}
 use Rattle.definition.proofs.StepLaws.{ranges}
 use Rattle.items.proofs.ItemLaws.{set_leads, goes_to}

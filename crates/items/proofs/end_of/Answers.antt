@@ -1,5 +1,4 @@
 use mathlib.Core.Logic.{inl, inr}
-use borrow.Author.Rules.{rules}
 use Rattle.items.proofs.ItemLaws.{move_leads, move_leaves}
 use Rattle.items.proofs.end_of.Goals as goal
 

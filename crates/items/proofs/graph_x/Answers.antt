@@ -1,7 +1,6 @@
 use mathlib.Core.Logic.{inr}
 use mathlib.Core.Path.{sym, ◌∙◌}
 use Rattle.definition.specs.Step.{point_at}
-use borrow.Author.Rules.{rules}
 use borrow.Author.Tests.{not-false}
 use Rattle.definition.proofs.StepLaws.{ranges}
 use Rattle.items.proofs.ItemLaws.{set_leads, may_lead, may_not, goes_out, goes_to}

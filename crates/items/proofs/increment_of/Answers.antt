@@ -1,5 +1,4 @@
 use native.Mathlib.Omega.{arith}
-use borrow.Author.Rules.{rules}
 use Rattle.items.proofs.ItemLaws.{by_increment}
 use Rattle.items.proofs.increment_of.Goals as goal
 

@@ -1,4 +1,3 @@
-use borrow.Author.Rules.{rules}
 use Rattle.vector.proofs.ReachLaws.{reaches}
 use Rattle.definition.proofs.StepLaws.{ranges}
 use Rattle.items.proofs.ItemLaws.{dark, lit_line}

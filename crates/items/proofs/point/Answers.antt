@@ -1,4 +1,3 @@
-use borrow.Author.Rules.{rules}
 use Rattle.items.proofs.ItemLaws.{dark, lit_point}
 use Rattle.items.proofs.point.Goals as goal
 

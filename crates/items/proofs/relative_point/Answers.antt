@@ -1,5 +1,4 @@
 use mathlib.Core.Path.{subst}
-use borrow.Author.Rules.{rules}
 use Rattle.definition.specs.Step.{point_at}
 use Rattle.items.specs.Ends.{Ends}
 use Rattle.definition.proofs.StepLaws.{ranges}

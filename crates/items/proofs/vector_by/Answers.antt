@@ -1,5 +1,4 @@
 use mathlib.Core.Path.{subst}
-use borrow.Author.Rules.{rules}
 use Rattle.items.specs.Ends.{Ends}
 use Rattle.items.specs.Goes.{vector_to}
 use Rattle.items.proofs.ItemLaws.{goes_out, goes_to}

@@ -1,5 +1,4 @@
 use mathlib.Core.Path.{sym, ◌∙◌}
-use borrow.Author.Rules.{rules}
 use borrow.Author.Tests.{not-true, not-false}
 use Rattle.numbers.proofs.NumberLaws.{flags_as_given, in_numbers}
 use Rattle.numbers.proofs.given_back.Goals as goal

@@ -1,4 +1,3 @@
-use borrow.Author.Rules.{rules}
 use Rattle.numbers.proofs.NumberLaws.{told}
 use Rattle.numbers.proofs.ran_of.Goals as goal
 

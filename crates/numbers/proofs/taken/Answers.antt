@@ -1,5 +1,4 @@
 use mathlib.Core.Path.{sym, ◌∙◌}
-use borrow.Author.Rules.{rules}
 use borrow.Author.Tests.{not-true, not-false}
 use Rattle.numbers.proofs.NumberLaws.{taken_out, taken_whole}
 use Rattle.numbers.proofs.taken.Goals as goal

@@ -1,4 +1,3 @@
-use borrow.Author.Rules.{rules}
 use Rattle.orders.proofs.OrderLaws.{stops_2, stops_1, no_stop}
 use Rattle.orders.proofs.status_a.Goals as goal
 

@@ -1,4 +1,3 @@
-use Rattle.std.proofs.Common.{rules}
 use Rattle.outcome.proofs.OutcomeLaws.{placed_by_one, placed_by_two}
 use Rattle.outcome.proofs.placed.Goals as goal
 

@@ -1,4 +1,3 @@
-use borrow.Author.Rules.{rules}
 use Rattle.units.proofs.UnitLaws.{minus_fits, minus, plus}
 use Rattle.units.proofs.move_of.Goals as goal
 

@@ -1,4 +1,3 @@
-use borrow.Author.Rules.{rules}
 use Rattle.units.proofs.UnitLaws.{both_halved}
 use Rattle.units.proofs.pixel_at.Goals as goal
 

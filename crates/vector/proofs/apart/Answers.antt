@@ -1,6 +1,5 @@
 use native.Mathlib.Omega.{arith}
 use Rattle.vector.proofs.CoordinateLaws.{apart_up, apart_down}
-use borrow.Author.Rules.{rules}
 use Rattle.vector.proofs.apart.Goals as goal
 
 pub returns-then-s-e : goal.returns-then-s-e

@@ -1,5 +1,4 @@
 use Rattle.vector.proofs.CoordinateLaws.{by_one_up_fits, by_one_up, by_one_down_fits, by_one_down}
-use borrow.Author.Rules.{rules}
 use Rattle.vector.proofs.by_one.Goals as goal
 
 pub overflow_add-result : goal.overflow_add-result

@@ -1,13 +1,11 @@
-use Prim.Native.Nat.{◌+◌, ◌-◌, ◌≤◌, ◌<◌}
+use Prim.Native.Nat.{◌≤◌, ◌<◌}
 use mathlib.Core.Path.{◌≡◌, refl, sym, ◌∙◌}
 use native.Mathlib.Omega.{arith}
-use lib.ListN.{length}
-use Rattle.definition.specs.Image.{ink_shape, ink_pen, left, inside, stores}
+use Rattle.definition.specs.Image.{ink_shape, ink_pen, inside, stores}
 use Rattle.definition.specs.Vector.{longer, nth, numbered}
 use Rattle.image.specs.Drawn.{drawn}
 use Rattle.image.proofs.DrawnLaws.{one_at_most}
 use Rattle.vector.proofs.WalkLaws.{walk_turn, longer_is, across_is, vector_one, vector_walked}
-use borrow.Author.Rules.{rules}
 use Rattle.vector.proofs.draw.Goals as goal
 
 pub apart-x-requires : goal.apart-x-requires

@@ -1,13 +1,9 @@
-use Prim.Native.Nat.{◌+◌, ◌-◌, ◌≤◌, ◌<◌}
-use mathlib.Core.Path.{◌≡◌, refl, sym, ◌∙◌}
-use native.Mathlib.Omega.{arith}
+use Prim.Native.Nat.{◌+◌, ◌-◌, ◌≤◌}
+use mathlib.Core.Path.{◌≡◌}
 use lib.ListN.{length}
-use Rattle.definition.specs.Image.{ink_shape, ink_pen, left, inside, stores}
-use Rattle.definition.specs.Vector.{longer, nth, numbered}
+use Rattle.definition.specs.Image.{ink_shape, ink_pen, left}
+use Rattle.definition.specs.Vector.{nth, numbered}
 use Rattle.image.specs.Drawn.{drawn}
-use Rattle.image.proofs.DrawnLaws.{one_at_most}
-use Rattle.vector.proofs.WalkLaws.{walk_turn, longer_is, across_is, vector_one, vector_walked}
-use borrow.Author.Rules.{rules}
 use Rattle.vector.proofs.draw.Given as goal
 
 abbrev pub invariant-loop-i : goal.invariant-loop-i

@@ -2,7 +2,6 @@ use Prim.Native.Nat.{◌-◌, ◌*◌, ◌≤◌}
 use mathlib.Core.Path.{refl}
 use native.Mathlib.Omega.{arith}
 use Rattle.vector.proofs.CoordinateLaws.{parts_fit}
-use borrow.Author.Rules.{rules}
 use Rattle.vector.proofs.nearest.Goals as goal
 
 pub overflow_mul-numerator : goal.overflow_mul-numerator

@@ -1,5 +1,4 @@
 use Rattle.vector.proofs.CoordinateLaws.{nth_across, nth_up}
-use borrow.Author.Rules.{rules}
 use Rattle.vector.proofs.nth.Goals as goal
 
 pub returns-then-across : goal.returns-then-across

@@ -1,5 +1,4 @@
 use Rattle.vector.proofs.CoordinateLaws.{rounded_fits, lowered_fits, rounded_is}
-use borrow.Author.Rules.{rules}
 use Rattle.vector.proofs.rounded.Goals as goal
 
 pub overflow_cast-result : goal.overflow_cast-result

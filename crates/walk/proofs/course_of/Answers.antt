@@ -1,5 +1,4 @@
 use Rattle.walk.proofs.CourseLaws.{follows}
-use borrow.Author.Rules.{rules}
 use Rattle.walk.proofs.course_of.Goals as goal
 
 pub returns : goal.returns

@@ -2,7 +2,6 @@ use mathlib.Core.Path.{sym, ◌∙◌}
 use native.Mathlib.Omega.{arith}
 use Rattle.definition.specs.Image.{ink_pen}
 use Rattle.walk.proofs.WalkLaws.{vector_one, marks_small, drawn_none, drawn_walked}
-use borrow.Author.Rules.{rules}
 use Rattle.walk.proofs.draw.Goals as goal
 
 pub returns-then-c-eq0 : goal.returns-then-c-eq0

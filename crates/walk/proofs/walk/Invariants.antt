@@ -1,14 +1,11 @@
 use Prim.Native.Nat.{◌-◌, ◌≤◌}
-use mathlib.Core.Path.{◌≡◌, refl, ap, ◌∙◌}
-use native.Mathlib.Omega.{arith}
+use mathlib.Core.Path.{◌≡◌}
 use lib.ListN.{length}
-use Rattle.definition.specs.Image.{left, ink_shape, ink_pen, inside, stores}
+use Rattle.definition.specs.Image.{left, ink_shape, ink_pen}
 use Rattle.definition.specs.Vector.{numbered}
 use Rattle.image.specs.Drawn.{drawn}
 use Rattle.course.specs.Course.{marks}
 use Rattle.walk.specs.Walk.{standing}
-use Rattle.walk.proofs.WalkLaws.{walk_turn, store_drawn, marks_more}
-use borrow.Author.Rules.{rules}
 use Rattle.walk.proofs.walk.Given as goal
 
 abbrev pub invariant-loop-i : goal.invariant-loop-i

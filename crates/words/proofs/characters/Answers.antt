@@ -1,6 +1,5 @@
 use mathlib.Core.Path.{refl}
 use Rattle.words.proofs.WordLaws.{characters}
-use borrow.Author.Rules.{rules}
 use Rattle.words.proofs.characters.Goals as goal
 
 pub returns : goal.returns

@@ -1,4 +1,3 @@
-use borrow.Author.Rules.{rules}
 use Rattle.words.proofs.WordLaws.{unsigned}
 use Rattle.words.proofs.coordinate.Goals as goal
 

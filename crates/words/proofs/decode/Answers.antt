@@ -1,5 +1,4 @@
 use Rattle.words.proofs.WordLaws.{does, draws_characters, draws}
-use borrow.Author.Rules.{rules}
 use Rattle.words.proofs.decode.Goals as goal
 
 pub returns-then-word-eq1 : goal.returns-then-word-eq1

@@ -1,4 +1,3 @@
-use borrow.Author.Rules.{rules}
 use Rattle.words.proofs.first_refusal.Goals as goal
 
 pub returns-then-word-eq1 : goal.returns-then-word-eq1

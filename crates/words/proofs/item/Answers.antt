@@ -1,6 +1,5 @@
 use native.Mathlib.Omega.{arith}
 use Rattle.words.proofs.WordLaws.{short_vector, long_vector, absolute_point, graph_x, graph_y, relative_point}
-use borrow.Author.Rules.{rules}
 use Rattle.words.proofs.item.Goals as goal
 
 pub returns-in-1 : goal.returns-in-1

@@ -1,5 +1,4 @@
 use Rattle.words.proofs.WordLaws.{refused_25, item_passes, refused_32, refused_32_second, characters_pass}
-use borrow.Author.Rules.{rules}
 use Rattle.words.proofs.item_refusal.Goals as goal
 
 pub returns-then-mode-eq-NO_MODE : goal.returns-then-mode-eq-NO_MODE

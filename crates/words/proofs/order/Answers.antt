@@ -1,4 +1,3 @@
-use borrow.Author.Rules.{rules}
 use native.Mathlib.Omega.{arith}
 use Rattle.words.proofs.WordLaws.{set_mode, jump, no_op, status_a, status_c, increment}
 use Rattle.words.proofs.order.Goals as goal

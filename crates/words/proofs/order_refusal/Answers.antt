@@ -1,4 +1,3 @@
-use borrow.Author.Rules.{rules}
 use Rattle.words.proofs.WordLaws.{refused_24, order_passes}
 use Rattle.words.proofs.order_refusal.Goals as goal
 
