@@ -1,7 +1,9 @@
 // The display file that an argument of a program names.
 #![tactic(auto)]
 
+ghost use Rattle.std.specs.Prelude.{◌≡◌, take, IfSome, IsTrue};
 ghost use Rattle.io.specs.Counts.{IsPrefixLen};
+ghost use Rattle.std.specs.Io.KnownBytes.{Consumes};
 
 use std::env::FillError;
 use std::fs;
@@ -42,8 +44,9 @@ pub fn take_argument(rt: &impl Env, i: usize, name: &mut [u8]) -> usize
 }
 
 // Reads until the bytes are full, the input ends or a read fails, and answers how many it put at their start.
-pub fn read_full(from: &mut impl Read, bytes: &mut [u8]) -> usize
-    ensures { IsPrefixLen result bytes.new }
+pub fn read_full<R: Read>(from: &mut R, bytes: &mut [u8]) -> usize
+    ensures prefix_len { IsPrefixLen result bytes.new }
+    ensures taken { Consumes (R.remaining from.old) (R.remaining from.new) (take result bytes.new) }
 {
     let mut done = 0;
     while done < bytes.len() {
@@ -60,8 +63,9 @@ fn is_dash(name: &[u8]) -> bool {
 }
 
 // Where less came than there is room for, the file ended or a read failed, as that of a folder does. One more read tells which.
-fn take(from: &mut impl Read, bytes: &mut [u8; ROOM]) -> Taken
-    ensures { IsPrefixLen result.length bytes.new }
+fn take<R: Read>(from: &mut R, bytes: &mut [u8; ROOM]) -> Taken
+    ensures prefix_len { IsPrefixLen result.length bytes.new }
+    ensures taken { IsTrue result.is_read → IfSome (R.remaining from.old) (λ file. take result.length bytes.new ≡ take 65537 file) }
 {
     let length = read_full(from, bytes);
     if length == ROOM {
