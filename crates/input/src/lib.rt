@@ -62,7 +62,8 @@ fn is_dash(name: &[u8]) -> bool {
     name == b"-".as_slice()
 }
 
-// Where less came than there is room for, the file ended or a read failed, as that of a folder does. One more read tells which.
+// Where less came than there is room for, the file ended or a read failed, as that of a folder does. One more read tells which. What was taken of a file
+// that was read is its first 65,537 bytes.
 fn take<R: Read>(from: &mut R, bytes: &mut [u8; ROOM]) -> Taken
     ensures prefix_len { IsPrefixLen result.length bytes.new }
     ensures taken { IsTrue result.is_read → IfSome (R.remaining from.old) (λ file. take result.length bytes.new ≡ take 65537 file) }
@@ -79,7 +80,7 @@ fn take<R: Read>(from: &mut R, bytes: &mut [u8; ROOM]) -> Taken
     Taken { length, is_read }
 }
 
-// The file of that name, which is text.
+// A file is opened by a name that is UTF-8, so one with another name is not found.
 fn open<R: Files>(rt: &R, name: &[u8]) -> Option<R::File> {
     let path = str::from_utf8(name).ok()?;
     fs::open(rt, path).ok()
