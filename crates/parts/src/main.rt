@@ -24,10 +24,21 @@ ghost use Rattle.std.specs.Prelude.{◌<◌};
 ghost use Rattle.vector.specs.Raised.{Reached, Reaches};
 
 use definition::{Ink, Pixel, Pixels, Units};
-use libc::{STDIN_FILENO, STDOUT_FILENO};
+use std::io::{Input, Read};
+
+// ---- one record; false where it was not written
+fn write(rt: &impl Print, record: &[u8]) -> bool {
+    rt.write_all(record).is_ok()
+}
+
+fn write_long(rt: &impl Print, v: u32) -> bool {
+    let mut record = [0u8; 4];
+    records::put_long(&mut record, 0, v);
+    write(rt, &record)
+}
 
 // ---- units
-fn units_case(head: &[u8]) -> bool {
+fn units_case(rt: &impl Print, head: &[u8]) -> bool {
     let mut record = [0u8; 24];
     let x = records::signed_at(head, 4);
     let y = records::signed_at(head, 8);
@@ -45,7 +56,7 @@ fn units_case(head: &[u8]) -> bool {
         units::moved_to(Units(x), Units(records::signed_at(head, 12))),
     );
     accounts::put_index(&mut record, units::index_in(512, p.y));
-    io::write_all(STDOUT_FILENO, &record)
+    write(rt, &record)
 }
 
 // ---- image
@@ -57,7 +68,7 @@ fn ink_of(head: &[u8]) -> Ink
     }
 }
 
-fn image_case(head: &[u8], image: &mut [u8; 65536]) -> bool {
+fn image_case(rt: &impl Print, head: &[u8], image: &mut [u8; 65536]) -> bool {
     let ink = ink_of(head);
     let x = (records::word_at(head, 4) % 512) as usize;
     let y = (records::word_at(head, 6) % 512) as usize;
@@ -80,42 +91,38 @@ fn image_case(head: &[u8], image: &mut [u8; 65536]) -> bool {
             image::clear(image);
         }
     }
-    write_long(answer)
+    write_long(rt, answer)
 }
 
-fn write_long(v: u32) -> bool {
-    let mut record = [0u8; 4];
-    records::put_long(&mut record, 0, v);
-    io::write_all(STDOUT_FILENO, &record)
-}
-
-fn look_case(head: &[u8], image: &mut [u8; 65536]) -> bool {
+fn look_case(rt: &impl Print, head: &[u8], image: &mut [u8; 65536]) -> bool {
     let sum = records::digest(image);
     if records::byte_at(head, 1) == 1 {
         fill(image, records::byte_at(head, 2));
     }
-    write_long(sum)
+    write_long(rt, sum)
 }
 
 fn fill(image: &mut [u8], b: u8) {
-    let mut i = 0;
-    while i < image.len() {
-        image[i] = b;
-        i += 1;
-    }
+    image.fill(b);
 }
 
 // ---- file
-fn file_case(head: &[u8], body: &mut [u8], words: &mut [u16]) -> bool {
+fn file_case(
+    rt: &impl Print,
+    from: &mut impl Read,
+    head: &[u8],
+    body: &mut [u8],
+    words: &mut [u16],
+) -> bool {
     let n = records::word_at(head, 2) as usize;
     if body.len() < 2 * n {
         return false;
     }
-    if io::read_full(STDIN_FILENO, &mut body[0..2 * n]) < 2 * n {
+    if from.read_exact(&mut body[..2 * n]).is_err() {
         return false;
     }
     words_of(body, words, n);
-    write_file(head, words, n)
+    write_file(rt, head, words, n)
 }
 
 fn words_of(body: &[u8], words: &mut [u16], n: usize) {
@@ -125,14 +132,12 @@ fn words_of(body: &[u8], words: &mut [u16], n: usize) {
     if words.len() < n {
         return;
     }
-    let mut i = 0;
-    while i < n {
+    for i in 0..n {
         words[i] = records::word_at(body, 2 * i);
-        i += 1;
     }
 }
 
-fn write_file(head: &[u8], words: &[u16], n: usize) -> bool {
+fn write_file(rt: &impl Print, head: &[u8], words: &[u16], n: usize) -> bool {
     if words.len() < n {
         return false;
     }
@@ -141,7 +146,7 @@ fn write_file(head: &[u8], words: &[u16], n: usize) -> bool {
     let answer = file::check(file);
     records::put(&mut record, 0, answer);
     if answer > 0 {
-        return io::write_all(STDOUT_FILENO, &record);
+        return write(rt, &record);
     }
     accounts::put_fetched(&mut record, 1, file::fetch(file, records::word_at(head, 4)));
     accounts::put_fetched(&mut record, 4, file::fetch(file, records::word_at(head, 6)));
@@ -161,11 +166,11 @@ fn write_file(head: &[u8], words: &[u16], n: usize) -> bool {
         16,
         file::fetch(file, records::word_at(head, 14)),
     );
-    io::write_all(STDOUT_FILENO, &record)
+    write(rt, &record)
 }
 
 // ---- words
-fn word_case(head: &[u8]) -> bool {
+fn word_case(rt: &impl Print, head: &[u8]) -> bool {
     let word = records::word_at(head, 2);
     let mut record = [0u8; 113];
     accounts::put_account(&mut record, 0, 1, word);
@@ -179,7 +184,7 @@ fn word_case(head: &[u8]) -> bool {
     records::put_signed(&mut record, 91, words::long(word).0);
     records::put_signed(&mut record, 95, words::coordinate(word).0);
     records::put(&mut record, 99, words::second_refusal(word));
-    io::write_all(STDOUT_FILENO, &record)
+    write(rt, &record)
 }
 
 // ---- vector
@@ -199,36 +204,44 @@ fn pixel_of(x: u16, y: u16) -> Pixel
     }
 }
 
-fn vector_case(head: &[u8], image: &mut [u8; 65536]) -> bool {
+fn vector_case(rt: &impl Print, head: &[u8], image: &mut [u8; 65536]) -> bool {
     let a = pixel_of(records::word_at(head, 4), records::word_at(head, 6));
     let b = pixel_of(records::word_at(head, 8), records::word_at(head, 10));
     let ink = ink_of(head);
-    write_long(vector::draw(image, a, b, ink))
+    write_long(rt, vector::draw(image, a, b, ink))
 }
 
 // ---- one case, and all; false at the end of the input, and where it is none
-fn one_case(image: &mut [u8; 65536], body: &mut [u8; 65536], words: &mut [u16; 32768]) -> bool {
+fn one_case(
+    rt: &impl Print,
+    from: &mut impl Read,
+    image: &mut [u8; 65536],
+    body: &mut [u8; 65536],
+    words: &mut [u16; 32768],
+) -> bool {
     let mut head = [0u8; 16];
-    if io::read_full(STDIN_FILENO, &mut head) < 16 {
+    if from.read_exact(&mut head).is_err() {
         return false;
     }
     match head[0] {
-        1 => units_case(&head),
-        2 => image_case(&head, image),
-        3 => file_case(&head, body, words),
-        4 => word_case(&head),
-        5 => vector_case(&head, image),
-        6 => look_case(&head, image),
+        1 => units_case(rt, &head),
+        2 => image_case(rt, &head, image),
+        3 => file_case(rt, from, &head, body, words),
+        4 => word_case(rt, &head),
+        5 => vector_case(rt, &head, image),
+        6 => look_case(rt, &head, image),
         _ => false,
     }
 }
 
-fn main() {
+fn main(rt: HostRuntime) {
+    let mut from = rt.reader();
     let mut image = [0u8; 65536];
     let mut body = [0u8; 65536];
     let mut words = [0u16; 32768];
-    let mut turns = u64::MAX;
-    while turns > 0 && one_case(&mut image, &mut body, &mut words) {
-        turns -= 1;
+    for _ in 0..u64::MAX {
+        if !one_case(&rt, &mut from, &mut image, &mut body, &mut words) {
+            return;
+        }
     }
 }

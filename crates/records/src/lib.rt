@@ -86,10 +86,8 @@ fn wide(b: u8) -> u64
 
 pub fn digest(bytes: &[u8]) -> u32 {
     let mut sum: u64 = 1;
-    let mut i = 0;
-    while i < bytes.len() {
-        sum = (sum * 2654435761 + wide(bytes[i]) + 1) % 4294967291;
-        i += 1;
+    for b in bytes {
+        sum = (sum * 2654435761 + wide(*b) + 1) % 4294967291;
     }
     sum as u32
 }

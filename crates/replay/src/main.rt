@@ -22,9 +22,8 @@
 // the machine of the case.
 #![tactic(auto)]
 
-use definition::Units;
-use libc::{STDIN_FILENO, STDOUT_FILENO};
 use numbers::{HostMachine, HostRan};
+use std::io::{Input, Read};
 
 // ---- the case
 fn machine_of(head: &[u8]) -> HostMachine {
@@ -43,19 +42,15 @@ fn machine_of(head: &[u8]) -> HostMachine {
 
 fn fill(image: &mut [u8], seed: u32) {
     let mut mixed: u64 = 0;
-    let mut i = 0;
-    while i < image.len() {
+    for b in image {
         mixed = (mixed * 69069 + seed as u64) % 4294967296;
-        image[i] = (mixed / 16777216) as u8;
-        i += 1;
+        *b = (mixed / 16777216) as u8;
     }
 }
 
 fn words_of(body: &[u8], words: &mut [u16]) {
-    let mut i = 0;
-    while i < words.len() {
-        words[i] = records::word_at(body, 2 * i);
-        i += 1;
+    for (i, word) in words.iter_mut().enumerate() {
+        *word = records::word_at(body, 2 * i);
     }
 }
 
@@ -96,61 +91,65 @@ fn started(m: HostMachine, address: u16) -> HostRan {
 }
 
 // ---- the line
-fn write_number(n: u64) {
-    io::print_decimal(STDOUT_FILENO, n);
-    io::write_all(STDOUT_FILENO, b" ");
+// A number that is not written is left out, and so is the space after it.
+fn write_number(rt: &impl Print, n: u64) {
+    let _ = print!(rt; "{n} ");
 }
 
-fn write_signed(z: i32) {
-    if z < 0 {
-        io::write_all(STDOUT_FILENO, b"-");
-    }
-    write_number(text::size(Units(z)));
+fn write_signed(rt: &impl Print, z: i32) {
+    let _ = print!(rt; "{z} ");
 }
 
-fn write_machine(m: HostMachine) {
-    write_number(m.counter as u64);
-    write_signed(m.x);
-    write_signed(m.y);
-    write_number(m.mode as u64);
-    write_number(m.value as u64);
-    write_number(m.write as u64);
-    write_number(m.latch as u64);
-    write_number(m.increment as u64);
-    write_number(m.status as u64);
+fn write_machine(rt: &impl Print, m: HostMachine) {
+    write_number(rt, m.counter as u64);
+    write_signed(rt, m.x);
+    write_signed(rt, m.y);
+    write_number(rt, m.mode as u64);
+    write_number(rt, m.value as u64);
+    write_number(rt, m.write as u64);
+    write_number(rt, m.latch as u64);
+    write_number(rt, m.increment as u64);
+    write_number(rt, m.status as u64);
 }
 
-fn write_line(ran: HostRan, digit: u8, digest: u32) -> bool {
-    write_number(ran.answer as u64);
-    write_number(ran.steps as u64);
-    write_number(ran.words as u64);
-    write_number(ran.stores as u64);
+// Answers whether the end of the line was written.
+fn write_line(rt: &impl Print, ran: HostRan, digit: u8, digest: u32) -> bool {
+    write_number(rt, ran.answer as u64);
+    write_number(rt, ran.steps as u64);
+    write_number(rt, ran.words as u64);
+    write_number(rt, ran.stores as u64);
     let m = ran.machine;
-    write_machine(m);
-    write_number(digit as u64);
-    io::print_decimal(STDOUT_FILENO, digest as u64);
-    io::write_all(STDOUT_FILENO, b"\n")
+    write_machine(rt, m);
+    write_number(rt, digit as u64);
+    println!(rt; "{digest}").is_ok()
 }
 
 // ---- one case, and all; false at the end of the input, and where a case is cut or too large
-fn replayed(head: &[u8], file: &[u16], image: &mut [u8], set: &mut [u8]) -> bool {
+fn replayed(rt: &impl Print, head: &[u8], file: &[u16], image: &mut [u8], set: &mut [u8]) -> bool {
     let mut digit = 0u8;
     fill(image, records::long_at(head, 36));
     fill(set, records::long_at(head, 52));
     let ran = called(head, file, image, set, &mut digit);
-    write_line(ran, digit, records::digest(image))
+    write_line(rt, ran, digit, records::digest(image))
 }
 
-fn with_set(head: &[u8], file: &[u16], image: &mut [u8]) -> bool {
+fn with_set(rt: &impl Print, head: &[u8], file: &[u16], image: &mut [u8]) -> bool {
     let mut set = [0u8; 1024];
     let size = records::word_at(head, 48) as usize;
     if set.len() < size {
         return false;
     }
-    replayed(head, file, image, &mut set[0..size])
+    replayed(rt, head, file, image, &mut set[..size])
 }
 
-fn with_file(head: &[u8], image: &mut [u8], body: &mut [u8], words: &mut [u16]) -> bool {
+fn with_file(
+    rt: &impl Print,
+    from: &mut impl Read,
+    head: &[u8],
+    image: &mut [u8],
+    body: &mut [u8],
+    words: &mut [u16],
+) -> bool {
     let size = records::long_at(head, 32) as usize;
     if image.len() < size {
         return false;
@@ -162,27 +161,35 @@ fn with_file(head: &[u8], image: &mut [u8], body: &mut [u8], words: &mut [u16]) 
     if body.len() < 2 * n {
         return false;
     }
-    if io::read_full(STDIN_FILENO, &mut body[0..2 * n]) < 2 * n {
+    if from.read_exact(&mut body[..2 * n]).is_err() {
         return false;
     }
-    words_of(body, &mut words[0..n]);
-    with_set(head, &words[0..n], &mut image[0..size])
+    words_of(body, &mut words[..n]);
+    with_set(rt, head, &words[..n], &mut image[..size])
 }
 
-fn one_case(image: &mut [u8; 65537], body: &mut [u8; 65536], words: &mut [u16; 32768]) -> bool {
+fn one_case(
+    rt: &impl Print,
+    from: &mut impl Read,
+    image: &mut [u8; 65537],
+    body: &mut [u8; 65536],
+    words: &mut [u16; 32768],
+) -> bool {
     let mut head = [0u8; 64];
-    if io::read_full(STDIN_FILENO, &mut head) < 64 {
+    if from.read_exact(&mut head).is_err() {
         return false;
     }
-    with_file(&head, image, body, words)
+    with_file(rt, from, &head, image, body, words)
 }
 
-fn main() {
+fn main(rt: HostRuntime) {
+    let mut from = rt.reader();
     let mut image = [0u8; 65537];
     let mut body = [0u8; 65536];
     let mut words = [0u16; 32768];
-    let mut turns = u64::MAX;
-    while turns > 0 && one_case(&mut image, &mut body, &mut words) {
-        turns -= 1;
+    for _ in 0..u64::MAX {
+        if !one_case(&rt, &mut from, &mut image, &mut body, &mut words) {
+            return;
+        }
     }
 }
