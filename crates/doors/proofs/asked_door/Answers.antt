@@ -1,6 +1,5 @@
 use native.Mathlib.Omega.{arith}
 use Rattle.doors.proofs.DoorLaws.{failed, held, machine_shut, budget_shut, set_shut, not_running, all_open}
-use borrow.Author.Rules.{rules}
 use Rattle.doors.proofs.asked_door.Goals as goal
 
 pub returns-then-not-ranged : goal.returns-then-not-ranged

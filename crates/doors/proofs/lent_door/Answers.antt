@@ -1,5 +1,4 @@
 use Rattle.doors.proofs.DoorLaws.{image_shut, by_the_file}
-use borrow.Author.Rules.{rules}
 use Rattle.doors.proofs.lent_door.Goals as goal
 
 pub returns-then-image-ne-BYTES : goal.returns-then-image-ne-BYTES

@@ -1,5 +1,4 @@
 use native.Mathlib.Omega.{arith}
-use borrow.Author.Rules.{rules}
 use Rattle.doors.proofs.DoorLaws.{failed, held, x_out, y_out, mode_out, Tested, value_out, increment_out, by_status}
 use Rattle.doors.proofs.ranged.Goals as goal
 

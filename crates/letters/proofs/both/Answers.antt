@@ -4,7 +4,6 @@ use Rattle.definition.specs.Characters.{chosen}
 use Rattle.definition.proofs.StepLaws.{ranges}
 use Rattle.items.proofs.ItemLaws.{dark}
 use Rattle.letters.proofs.LetterLaws.{letter_at_most, both_lit}
-use borrow.Author.Rules.{rules}
 use Rattle.letters.proofs.both.Goals as goal
 
 pub returns-then-not-m : goal.returns-then-not-m

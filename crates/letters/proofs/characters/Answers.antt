@@ -10,7 +10,6 @@ use Rattle.definition.proofs.StepLaws.{ranges}
 use Rattle.items.proofs.ItemLaws.{may_lead, may_not, goes_to}
 use Rattle.letters.specs.Pair.{pair_pixels}
 use Rattle.letters.proofs.LetterLaws.{half_way, stay_leads, word_refused, word_put_off, word_done}
-use borrow.Author.Rules.{rules}
 use Rattle.letters.proofs.characters.Goals as goal
 
 pub returns-then-not-may_move : goal.returns-then-not-may_move

@@ -3,7 +3,6 @@ use lib.ListN.{length}
 use Rattle.definition.proofs.StepLaws.{ranges}
 use Rattle.cells.proofs.CellLaws.{cell_length}
 use Rattle.letters.proofs.LetterLaws.{corner_near, letter_is}
-use borrow.Author.Rules.{rules}
 use Rattle.letters.proofs.letter_of.Goals as goal
 
 pub cell_of-cell-requires : goal.cell_of-cell-requires

@@ -3,7 +3,6 @@ use Rattle.definition.specs.Calls.{lending, plain, given}
 use Rattle.definition.specs.declared.Item.TheVariants.{ShortVector, GraphX, GraphY, RelativePoint}
 use Rattle.machine.specs.Rest.{Drawable}
 use Rattle.machine.proofs.StepLaws.{one_done, two_done, characters_done, long_alone, absolute_alone}
-use borrow.Author.Rules.{rules}
 use Rattle.machine.proofs.draws.Goals as goal
 
 pub absolute_point-requires : goal.absolute_point-requires

@@ -1,4 +1,3 @@
-use borrow.Author.Rules.{rules}
 use Rattle.definition.specs.Calls.{plain, given}
 use Rattle.machine.proofs.StepLaws.{jump_ends, jump_done}
 use Rattle.machine.proofs.jump.Goals as goal

@@ -1,4 +1,3 @@
-use borrow.Author.Rules.{rules}
 use mathlib.Core.Path.{refl}
 use Rattle.definition.specs.Calls.{plain, given}
 use Rattle.definition.specs.declared.Item.TheVariants.{LongVector}

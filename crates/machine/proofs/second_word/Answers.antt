@@ -1,4 +1,3 @@
-use borrow.Author.Rules.{rules}
 use native.Mathlib.Omega.{arith}
 use Rattle.definition.specs.Calls.{plain, given}
 use Rattle.machine.proofs.StepLaws.{second_not_fetched, second_turned, second_taken}

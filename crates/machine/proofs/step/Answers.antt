@@ -1,5 +1,4 @@
 use native.Mathlib.Omega.{arith}
-use borrow.Author.Rules.{rules}
 use mathlib.Core.Path.{sym, ◌∙◌}
 use Rattle.definition.specs.Calls.{lending, plain, given}
 use Rattle.machine.proofs.StepLaws.{not_fetched, word_refused, order_alone, done_order, done_item, decode_drawable}

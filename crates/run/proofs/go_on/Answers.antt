@@ -2,7 +2,6 @@ use mathlib.Core.Path.{refl, sym, ◌∙◌}
 use native.Mathlib.Omega.{arith}
 use Rattle.definition.specs.BuiltIn.{built_in}
 use Rattle.run.proofs.RunLaws.{gone_on}
-use borrow.Author.Rules.{rules}
 use Rattle.run.proofs.go_on.Goals as goal
 
 pub walk-rest-requires : goal.walk-rest-requires

@@ -2,7 +2,6 @@ use mathlib.Core.Path.{ap, ◌∙◌}
 use Rattle.definition.specs.Calls.{answered}
 use Rattle.run.proofs.RunLaws.{serves_lent}
 use native.Mathlib.Omega.{arith}
-use borrow.Author.Rules.{rules}
 use Rattle.run.proofs.one.Goals as goal
 
 pub walk-first-requires : goal.walk-first-requires

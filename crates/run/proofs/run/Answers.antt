@@ -1,7 +1,6 @@
 use mathlib.Core.Path.{ap, ◌∙◌}
 use Rattle.definition.specs.Calls.{answered}
 use Rattle.run.proofs.RunLaws.{serves_lent}
-use borrow.Author.Rules.{rules}
 use Rattle.run.proofs.run.Goals as goal
 
 pub walk-first-requires : goal.walk-first-requires

@@ -1,16 +1,10 @@
-use Prim.Native.Nat.{ℕ, ◌-◌}
-use mathlib.Core.Bool.{true}
-use mathlib.Core.Path.{◌≡◌, refl, sym, ap, ◌∙◌}
+use mathlib.Core.Path.{refl, sym, ap, ◌∙◌}
 use native.Mathlib.Omega.{arith}
-use lib.ListN.{length}
 use Rattle.definition.specs.Machine.{ranged}
-use Rattle.definition.specs.Run.{begun, run}
 use Rattle.definition.specs.Characters.{chosen}
 use Rattle.definition.specs.Calls.{lending, given}
-use Rattle.definition.specs.declared.Counts.{Counts}
-use Rattle.outcome.specs.Outcome.{no_set}
-use Rattle.run.specs.Walked.{state, Within}
-use Rattle.run.proofs.RunLaws.{counts, woken, in_range_not, woken_in_range, running_in_range, ahead, ahead_less, turn, run_whole, spent, stopped}
+use Rattle.run.specs.Walked.{Within}
+use Rattle.run.proofs.RunLaws.{counts, in_range_not, woken_in_range, running_in_range, ahead_less, turn, run_whole, spent, stopped}
 use Rattle.run.proofs.walk.Goals as goal
 
 pub loop-steps-init : goal.loop-steps-init

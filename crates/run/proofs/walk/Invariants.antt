@@ -1,16 +1,14 @@
-use Prim.Native.Nat.{ℕ, ◌-◌}
+use Prim.Native.Nat.{◌-◌}
 use mathlib.Core.Bool.{true}
-use mathlib.Core.Path.{◌≡◌, refl, sym, ap, ◌∙◌}
-use native.Mathlib.Omega.{arith}
+use mathlib.Core.Path.{◌≡◌}
 use lib.ListN.{length}
 use Rattle.definition.specs.Machine.{ranged}
 use Rattle.definition.specs.Run.{begun, run}
 use Rattle.definition.specs.Characters.{chosen}
 use Rattle.definition.specs.Calls.{lending, given}
-use Rattle.definition.specs.declared.Counts.{Counts}
 use Rattle.outcome.specs.Outcome.{no_set}
 use Rattle.run.specs.Walked.{state, Within}
-use Rattle.run.proofs.RunLaws.{counts, woken, in_range_not, woken_in_range, running_in_range, ahead, ahead_less, turn, run_whole, spent, stopped}
+use Rattle.run.proofs.RunLaws.{counts, woken, ahead}
 use Rattle.run.proofs.walk.Given as goal
 
 abbrev pub invariant-loop-steps : goal.invariant-loop-steps

@@ -1,4 +1,3 @@
-use borrow.Author.Rules.{rules}
 use Rattle.still.proofs.StillLaws.{not_cleared, all_cleared}
 use Rattle.still.proofs.clear.Goals as goal
 

@@ -1,6 +1,5 @@
 use mathlib.Core.Path.{sym, ◌∙◌}
 use native.Mathlib.Omega.{arith}
-use borrow.Author.Rules.{rules}
 use Rattle.units.proofs.AnswerLaws.{index_below}
 use Rattle.still.proofs.StillLaws.{no_image, beside, above, read_in}
 use Rattle.still.proofs.read_pixel.Goals as goal

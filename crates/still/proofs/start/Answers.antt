@@ -1,4 +1,3 @@
-use borrow.Author.Rules.{rules}
 use Rattle.doors.proofs.DoorLaws.{failed, held}
 use Rattle.still.proofs.StillLaws.{not_started, started}
 use Rattle.still.proofs.start.Goals as goal
