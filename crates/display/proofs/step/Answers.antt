@@ -1,4 +1,3 @@
-use borrow.Author.Rules.{rules}
 use Rattle.definition.specs.Calls.{lending}
 use Rattle.display.proofs.CallLaws.{turned_away_is, turned_away_then, granted, ran}
 use Rattle.display.proofs.step.Goals as goal

@@ -1,6 +1,5 @@
 use native.Mathlib.Omega.{arith}
 use Rattle.line.proofs.LineLaws.{odd, too_long, ran}
-use borrow.Author.Rules.{rules}
 use Rattle.line.proofs.line_of.Goals as goal
 
 pub returns-then-bytes-ne0 : goal.returns-then-bytes-ne0

@@ -1,6 +1,5 @@
 use mathlib.Core.Path.{refl}
 use Rattle.line.proofs.LineLaws.{fresh_run}
-use borrow.Author.Rules.{rules}
 use Rattle.line.proofs.line_of_run.Goals as goal
 
 pub returns : goal.returns

@@ -1,9 +1,7 @@
-use Prim.Native.Nat.{◌-◌, ◌/◌, ◌≤◌}
-use mathlib.Core.Path.{◌≡◌, refl}
+use mathlib.Core.Path.{refl}
 use native.Mathlib.Omega.{arith}
-use lib.ListN.{length, drop, length-set}
-use Rattle.line.proofs.WordsLaws.{same_after, Begun, one_more, all_there}
-use borrow.Author.Rules.{rules}
+use lib.ListN.{length-set}
+use Rattle.line.proofs.WordsLaws.{same_after, one_more, all_there}
 use Rattle.line.proofs.words_of.Goals as goal
 
 pub loop-i-init : goal.loop-i-init

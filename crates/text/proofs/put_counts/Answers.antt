@@ -1,6 +1,5 @@
 use native.Mathlib.Omega.{arith}
 use Rattle.text.proofs.TextLaws.{next_put}
-use borrow.Author.Rules.{rules}
 use Rattle.text.proofs.put_counts.Goals as goal
 
 pub put_next-requires : goal.put_next-requires

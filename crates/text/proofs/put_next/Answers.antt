@@ -1,6 +1,5 @@
 use native.Mathlib.Omega.{arith}
 use Rattle.text.proofs.TextLaws.{both_put}
-use borrow.Author.Rules.{rules}
 use Rattle.text.proofs.put_next.Goals as goal
 
 pub returns : goal.returns

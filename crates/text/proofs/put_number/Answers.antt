@@ -1,6 +1,5 @@
 use Rattle.text.proofs.FiguresLaws.{all_figures, at_most_20}
 use native.Mathlib.Omega.{arith}
-use borrow.Author.Rules.{rules}
 use Rattle.text.proofs.put_number.Goals as goal
 
 pub put-requires : goal.put-requires

@@ -1,7 +1,6 @@
 use native.Mathlib.Omega.{arith}
 use Rattle.definition.specs.Plot.{text}
 use Rattle.text.proofs.TextLaws.{both_put, next_put}
-use borrow.Author.Rules.{rules}
 use Rattle.text.proofs.put_position.Goals as goal
 
 pub returns : goal.returns
