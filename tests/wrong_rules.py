@@ -1,7 +1,7 @@
 #!/usr/bin/env python3
 """Wrong rules, one at a time: each is put into a copy of the definition, and a worked example must refuse it.
 
-With no argument it tries all of them, which takes some 8 minutes of one core: run it when a rule or an example has changed.
+With no argument it tries all of them, which takes some 35 minutes of one core: run it when a rule or an example has changed.
 With --some N --seed S it tries N of them, chosen by the seed; ./test does so.
 It prints each rule that behaves other than it is marked, and exits 0 where there is none.
 """
