@@ -3,7 +3,6 @@ use native.Mathlib.Omega.{arith}
 use Rattle.definition.specs.Image.{blank}
 use Rattle.image.proofs.StoredLaws.{cleared_is_blank}
 use Rattle.screen.proofs.ScreenLaws.{odd, too_long, ran}
-use borrow.Author.Rules.{rules}
 use Rattle.screen.proofs.draw.Goals as goal
 
 pub returns-then-bytes-ne0 : goal.returns-then-bytes-ne0

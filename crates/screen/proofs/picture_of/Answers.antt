@@ -3,7 +3,6 @@ use mathlib.Core.Path.{ap}
 use Prim.Native.Nat.{ℕ}
 use lib.ListN.{drop}
 use Rattle.screen.proofs.PictureLaws.{whole}
-use borrow.Author.Rules.{rules}
 use Rattle.screen.proofs.picture_of.Goals as goal
 
 pub returns : goal.returns

@@ -1,9 +1,7 @@
-use Prim.Native.Nat.{◌-◌, ◌≤◌}
 use mathlib.Core.Path.{◌≡◌, refl}
 use native.Mathlib.Omega.{arith}
-use lib.ListN.{length, length-set}
-use Rattle.screen.proofs.PictureLaws.{Begun, no_digit, one_digit}
-use borrow.Author.Rules.{rules}
+use lib.ListN.{length-set}
+use Rattle.screen.proofs.PictureLaws.{no_digit, one_digit}
 use Rattle.screen.proofs.put_row.Goals as goal
 
 pub loop-x-init : goal.loop-x-init

@@ -1,9 +1,7 @@
 use Prim.Native.Nat.{◌-◌, ◌≤◌}
-use mathlib.Core.Path.{◌≡◌, refl}
-use native.Mathlib.Omega.{arith}
-use lib.ListN.{length, length-set}
-use Rattle.screen.proofs.PictureLaws.{Begun, no_digit, one_digit}
-use borrow.Author.Rules.{rules}
+use mathlib.Core.Path.{◌≡◌}
+use lib.ListN.{length}
+use Rattle.screen.proofs.PictureLaws.{Begun}
 use Rattle.screen.proofs.put_row.Given as goal
 
 abbrev pub invariant-loop-x : goal.invariant-loop-x

@@ -1,9 +1,6 @@
-use Prim.Native.Nat.{◌≤◌}
-use mathlib.Core.Path.{◌≡◌, refl}
+use mathlib.Core.Path.{refl}
 use native.Mathlib.Omega.{arith}
-use lib.ListN.{length}
-use Rattle.screen.proofs.PictureLaws.{DownTo, one_row, no_row}
-use borrow.Author.Rules.{rules}
+use Rattle.screen.proofs.PictureLaws.{one_row, no_row}
 use Rattle.screen.proofs.put_rows.Goals as goal
 
 pub loop-y-init : goal.loop-y-init

@@ -1,9 +1,7 @@
 use Prim.Native.Nat.{◌≤◌}
-use mathlib.Core.Path.{◌≡◌, refl}
-use native.Mathlib.Omega.{arith}
+use mathlib.Core.Path.{◌≡◌}
 use lib.ListN.{length}
-use Rattle.screen.proofs.PictureLaws.{DownTo, one_row, no_row}
-use borrow.Author.Rules.{rules}
+use Rattle.screen.proofs.PictureLaws.{DownTo}
 use Rattle.screen.proofs.put_rows.Given as goal
 
 abbrev pub invariant-loop-y : goal.invariant-loop-y
