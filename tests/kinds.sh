@@ -25,7 +25,7 @@ takes() {
 	    $1
 	}
 	END
-    (cd "$work" && rt check kinds) >"$work/out" 2>&1
+    (cd "$work/crates/kinds" && rt check) >"$work/out" 2>&1
 }
 
 refused() {
@@ -67,6 +67,7 @@ units::index_in opens 1
 vector::raised opens 1
 vector::by_one Pixels 2 opens 2
 vector::rounded Pixels 1
+walk::raised opens 1
 # position (0, 0); the increment, which is in units
 still::fresh Units 2
 line::refused Units 2
