@@ -104,7 +104,8 @@ prove() {
         printf '\r%-70s\r' '' >&2
         [ -n "$failed" ] || say "all $(sources "$crate" | wc -l) crates are proved, and it is built ($(seconds $(($(date +%s) - start))))"
     fi
-    [ -z "$failed" ] || { tail -n 5 "target/$crate.log" >&2; fail "it was not built, as it is not proved; $top/target/$crate.log has what rt said."; }
+    # the last lines, but for those that only tell what was loaded
+    [ -z "$failed" ] || { awk '!/^(statements|library|logic|only=)/' "target/$crate.log" | tail -n 5 >&2; fail "it was not built, as it is not proved; $top/target/$crate.log has what rt said."; }
 }
 
 # One proof at a time in this folder; it lasts until the shell that called this ends.
