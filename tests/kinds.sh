@@ -84,7 +84,6 @@ host::roadparsnip_read_pixel Pixels 2
 # X and Y of a machine, printed: units
 text::size opens 1
 text::put_signed opens 1
-replay::write_signed Units 1
 # cases of second/, and what came out, as bytes: each number is of the kind that the case has there
 parts::units_case Units 5 opens 4
 parts::image_case Pixels 2
