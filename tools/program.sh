@@ -79,6 +79,13 @@ progress() {
     done
 }
 
+# LOG: the first lines of it that tell why something is not proved, or else the last ones.
+why_not() {
+    awk '/error(\[[a-z-]*\])?:/ || /not proved/ || /no proof:/ || /did not build/ { if (told++ < 5) print }
+        { last[NR % 5] = $0 }
+        END { if (!told) for (i = NR - 4; i <= NR; i++) if (i > 0) print last[i % 5] }' "$1"
+}
+
 # CRATE VERB: by `rt VERB` in its folder the crate is proved and built, and this says so. The sources are then as old as target/CRATE.began.
 prove() {
     crate=$1
@@ -104,8 +111,7 @@ prove() {
         printf '\r%-70s\r' '' >&2
         [ -n "$failed" ] || say "all $(sources "$crate" | wc -l) crates are proved, and it is built ($(seconds $(($(date +%s) - start))))"
     fi
-    # the last lines, but for those that only tell what was loaded
-    [ -z "$failed" ] || { awk '!/^(statements|library|logic|only=)/' "target/$crate.log" | tail -n 5 >&2; fail "it was not built, as it is not proved; $top/target/$crate.log has what rt said."; }
+    [ -z "$failed" ] || { why_not "target/$crate.log" >&2; fail "it was not built, as it is not proved; $top/target/$crate.log has what rt said."; }
 }
 
 # One proof at a time in this folder; it lasts until the shell that called this ends.
