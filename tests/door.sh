@@ -94,18 +94,18 @@ printf 'line: definition\nplot: line io\nelse: line\n' >"$tree/crates.txt"
 touch "$tree/crates/plot/src/main.rt" "$tree/crates/line/src/lib.rt" "$tree/crates/line/src/more.rt" "$tree/crates/else/src/lib.rt"
 cat >"$work/rt/rt" <<'END'
 #!/bin/sh
-[ "$*" = 'check plot' ] && [ ! -e refuse ] || { echo 'rt: FAILED: line'; exit 1; }
-mkdir -p target/bin target/log
+[ "$*" = run ] && [ ! -e ../../refuse ] || { echo 'rt: the library line did not build'; exit 1; }
 for crate in line plot; do
-    : >"target/log/$crate.out"
-    [ ! -e slow ] || sleep 4
+    mkdir -p "../$crate/out"
+    echo "rt: chose --jobs 2 for $crate"
+    [ ! -e ../../slow ] || sleep 4
 done
-echo >>built
-printf '#!/bin/sh\nfor file; do echo "1 $(wc -l <%s/built)"; done\n' "$PWD" >target/bin/plot
-chmod +x target/bin/plot
+echo >>../../built
+printf '#!/bin/sh\nfor file; do echo "1 $(wc -l <%s/../../built)"; done\n' "$PWD" >out/plot
+chmod +x out/plot
 END
 chmod +x "$tree/tools/run-x86" "$work/rt/rt"
-for tool in sh cat chmod wc dirname basename readlink awk head tail mkdir touch flock uname date sleep ls; do
+for tool in sh cat chmod wc dirname readlink awk head tail mkdir cp mv touch flock uname date sleep; do
     if there=$(command -v "$tool"); then ln -s "$there" "$work/few/$tool"; fi
 done
 printf '#!/bin/sh\necho >>%s\nexec %s "$@"\n' "$work/asked" "$(command -v find)" >"$work/few/find"
@@ -130,8 +130,11 @@ is 0 '1 2' "$proving" called
 rm "$tree/crates/line/src/more.rt"
 is 0 '1 3' "$proving" called
 is 0 '1 3' '' called
+# what rt makes of out/ afterwards does not count, and the program stays
+rm -r "$tree/crates/plot/out"
+touch "$tree/crates/line/out/more"
+is 0 '1 3' '' called
 if script -qec true /dev/null </dev/null >/dev/null 2>&1; then
-    rm -r "$tree/target/log"
     touch "$tree/crates.txt" "$tree/slow"
     PATH="$work/rt:$work/few:$PATH" script -qec "$tree/roadparsnip plot - </dev/null" /dev/null </dev/null | tr '\r' '\n' | sed -e 's/ *$//' -e '/^$/d' >"$work/said"
     grep -qx 'plot: proving crate 1 of 2, line ([0-9]* s)' "$work/said" && grep -qx 'plot: proving crate 2 of 2, plot ([0-9]* s)' "$work/said" &&
@@ -142,7 +145,7 @@ else
 fi
 touch "$tree/crates.txt" "$tree/refuse"
 is 2 '' "$proving
-rt: FAILED: line
+rt: the library line did not build
 plot: it was not built, as it is not proved; $tree/target/plot.log has what rt said." called
 
 # ---- ./install: STATUS SENTENCE COMMAND..
@@ -188,12 +191,18 @@ is 0 "$first" '' user
 is 0 "roadparsnip $version
 interface $interface
 proved by $(rt version)" '' user --version
-if [ "$(uname -m)" != x86_64 ]; then
-    is 2 '' "roadparsnip: the programs are for x86-64, and this machine is $(uname -m): install Debian's package qemu-user, or the Rattle toolchain, to run them." user plot 'a chart.df'
-    # the toolchain's emulator, by the name that the one of Debian's package has
-    ln -s "$(dirname "$(dirname "$(readlink -f "$(command -v rt)")")")/on/$(uname -m)/toolchain/bin/qemu-x86_64" "$work/user/qemu-x86_64"
-fi
 is 0 "$(cat examples/weeks.line)" '' user plot 'a chart.df'
+# on another machine, with and without an emulator; the one here runs the program as it is
+mv "$work/user/uname" "$work/uname"
+printf '#!/bin/sh\necho aarch64\n' >"$work/user/uname"
+chmod +x "$work/user/uname"
+is 2 '' "roadparsnip: the programs are for x86-64, and this machine is aarch64: install Debian's package qemu-user to run them." user plot 'a chart.df'
+printf '#!/bin/sh\necho >>emulated\nexec "$@"\n' >"$work/user/qemu-x86_64"
+chmod +x "$work/user/qemu-x86_64"
+is 0 "$(cat examples/weeks.line)" '' user plot 'a chart.df'
+[ -s "$work/elsewhere/emulated" ] || fail 'on another machine a program runs without the emulator'
+rm "$work/user/uname" "$work/user/qemu-x86_64"
+mv "$work/uname" "$work/user/uname"
 is 1 "$(cat examples/refused-13-tag.line)" '' user plot refused.df
 is 0 '' '' user picture 'a chart.df' 'a picture.pgm'
 is 1 '' 'picture: refused.df: refused, 13: the tag, which is the first word, is not 1; nothing was drawn.' user picture --pgm --out pictures 'a chart.df' refused.df

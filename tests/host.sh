@@ -1,7 +1,7 @@
 #!/bin/sh
 # The library in C: ./build, then examples/host.c and the programs of docs/HOST.md, compiled with every warning an error, against what they should print;
-# the names that the library has, and that one function lays out the built-in characters; that the interface number rises when the header changes; and
-# ./build as it is called with something wrong.
+# the names that the library has, and that one function lays out the built-in characters; that the interface number rises when the header changes; that what
+# C calls states what crates/host does; and ./build as it is called with something wrong.
 set -eu
 cd "$(dirname "$0")/.."
 # tests that prove or build in this folder take turns
@@ -86,6 +86,20 @@ nm=$(tools/cc-x86 -print-prog-name=nm)
 for own in run::go_on run::walk; do
     "$nm" "$work/lib/libroadparsnip.a" | grep -q " t $own\$" || fail "$own is no function of its own: see Characters in docs/PERFORMANCE.md"
 done
+
+# ---- what C calls: each function of crates/host, with its parameters, its result and its clauses, exported under its name
+# CRATE: a line for each of its public functions: all that stands before the body
+stated() {
+    awk '/^pub / { head = ""; open = 1 }
+        $0 == "{" && open { sub(/extern "C" /, "", head); gsub(/[(] /, "(", head); gsub(/,? [)]/, ")", head); print head; open = 0 }
+        open { sub(/^ +/, ""); head = head (head == "" ? "" : " ") $0 }' "crates/$1/src/lib.rt"
+}
+stated host >"$work/stated"
+sed -n 's/^pub fn \([a-z_]*\)(.* ensures { .*/\1/p' "$work/stated" | sort | diff "$work/functions" - || fail 'crates/host has other functions than the header declares: < as declared, > as it has them'
+stated host_c | diff "$work/stated" - || fail 'crates/host_c does not state what crates/host does: < as in crates/host, > as in crates/host_c'
+while read -r function; do
+    grep -q "^    host::$function(" crates/host_c/src/lib.rt || fail "crates/host_c does not call host::$function"
+done <"$work/functions"
 
 # ---- the header: the machine has no gap, the records are as large as the code makes them, and a file that includes nothing else compiles
 cat >"$work/alone.c" <<'END'

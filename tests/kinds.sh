@@ -25,7 +25,7 @@ takes() {
 	    $1
 	}
 	END
-    (cd "$work" && rt check kinds) >"$work/out" 2>&1
+    (cd "$work/crates/kinds" && rt check) >"$work/out" 2>&1
 }
 
 refused() {
@@ -67,6 +67,7 @@ units::index_in opens 1
 vector::raised opens 1
 vector::by_one Pixels 2 opens 2
 vector::rounded Pixels 1
+walk::raised opens 1
 # position (0, 0); the increment, which is in units
 still::fresh Units 2
 line::refused Units 2
@@ -83,7 +84,6 @@ host::roadparsnip_read_pixel Pixels 2
 # X and Y of a machine, printed: units
 text::size opens 1
 text::put_signed opens 1
-replay::write_signed Units 1
 # cases of second/, and what came out, as bytes: each number is of the kind that the case has there
 parts::units_case Units 5 opens 4
 parts::image_case Pixels 2

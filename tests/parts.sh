@@ -7,7 +7,6 @@ cd "$(dirname "$0")/.."
 exec 8<crates.txt
 flock 8
 seed=${SEED:-$(date +%s)}
-program=target/bin/parts
 least=450000
 
 echo "parts: seed $seed"
@@ -16,7 +15,7 @@ work=$(mktemp -d)
 trap 'rm -rf "$work"' EXIT
 trap 'exit 1' HUP INT PIPE TERM
 # what is proved and unchanged is not proved again
-rt check parts >"$work/out" 2>&1 || { tail -n 20 "$work/out"; echo 'parts: the program is not proved'; exit 1; }
+program=$(tools/made parts 2>"$work/out") || { cat "$work/out"; echo 'parts: the program is not proved'; exit 1; }
 "$second" parts "$seed" "$work"
 cases=$(wc -l <"$work/index")
 [ "$cases" -ge "$least" ] || { echo "parts: second made $cases cases, fewer than $least"; exit 1; }

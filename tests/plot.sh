@@ -16,16 +16,15 @@ second=$(tools/second)
 work=$(mktemp -d)
 trap 'rm -rf "$work"' EXIT
 trap 'exit 1' HUP INT PIPE TERM
-rt check plot >"$work/out" 2>&1 || { tail -n 20 "$work/out"; echo 'plot: the program is not proved'; exit 1; }
-# It is proved as the sources are now, also where a folder is newer: the command has nothing to build, and says nothing of it.
-touch target/bin/plot
+# from here on the command has nothing to build, and says nothing of it
+program=$(tools/made plot 2>"$work/out") || { cat "$work/out"; echo 'plot: the program is not proved'; exit 1; }
 
 fail() {
     echo "plot: $1 (seed $seed)"
     exit 1
 }
 
-program() { tools/run-x86 target/bin/plot; }
+program() { tools/run-x86 "$program"; }
 
 # ---- the examples: made from their words, and their lines as the table has them
 mkdir "$work/made"

@@ -16,9 +16,10 @@ work=$(mktemp -d)
 trap 'rm -rf "$work"' EXIT
 trap 'exit 1' HUP INT PIPE TERM
 # what is proved and unchanged is not proved again
-rt check replay >"$work/out" 2>&1 || { tail -n 20 "$work/out"; echo 'replay: the program is not proved, or does not write what is stored'; exit 1; }
+program=$(tools/made replay 2>"$work/out") || { cat "$work/out"; echo 'replay: the program is not proved'; exit 1; }
 
-# ---- the stored cases: their bytes, their lines and their table are second's
+# ---- the stored cases: the program writes their lines; these, the bytes of the cases and their table are second's
+tools/run-x86 "$program" <"$stored/stdin" >"$work/got" && cmp "$stored/stdout" "$work/got" || { echo 'replay: the program does not write what is stored'; exit 1; }
 mkdir "$work/stored" "$work/fresh"
 "$second" replay 1 "$work/stored"
 cmp "$work/stored/cases" "$stored/stdin" || { echo "replay: $stored/stdin is not what 'second replay 1 DIR' makes"; exit 1; }
@@ -29,7 +30,7 @@ diff "$work/stored/table" "$work/table" || { echo "replay: docs/REPLAY.md does n
 # ---- fresh ones
 "$second" replay "$seed" "$work/fresh" "$count"
 status=0
-tools/run-x86 target/bin/replay <"$work/fresh/cases" >"$work/got" || status=$?
+tools/run-x86 "$program" <"$work/fresh/cases" >"$work/got" || status=$?
 if [ "$status" -eq 0 ] && cmp -s "$work/fresh/expected" "$work/got"; then
     echo "replay: $(($(wc -l <"$stored/stdout"))) stored and $count fresh cases agree with second (seed $seed)"
     exit 0

@@ -54,38 +54,45 @@ sources() {
             n = split(needs[name], list, " ")
             for (i = 1; i <= n; i++) visit(list[i])
         }
-        { needs[$1] = $2 }
+        { split($1, head, " "); needs[head[1]] = $2 }
         END { visit(crate) }' crates.txt
 }
 
-# PROGRAM: it is there, and nothing that it is made from is newer. A folder is newer where a file of it was removed.
+# PROGRAM: it is there, and nothing that it is made from is newer. A folder of a crate is newer where a file of it was removed; out/ is rt's own.
 current() {
     # shellcheck disable=SC2046 # the names of crates have no spaces
-    [ -x "target/bin/$1" ] && [ -z "$(find crates.txt $(sources "$1") -newer "target/bin/$1" | head -n 1)" ]
+    [ -x "target/bin/$1" ] && [ -z "$(find crates.txt $(sources "$1") -path 'crates/*/out' -prune -o \
+        \( -path crates.txt -o -path 'crates/*/*' \) -newer "target/bin/$1" -print | head -n 1)" ]
 }
 
 seconds() {
     if [ "$1" -lt 60 ]; then echo "$1 s"; else echo "$(($1 / 60)) min $(($1 % 60)) s"; fi
 }
 
-# CRATE: a line that moves, for as long as this script runs. rt opens the log of a crate when it begins with it.
+# CRATE: a line that moves, for as long as this script runs. rt says so when it begins with a crate.
 progress() {
     total=$(sources "$1" | wc -l)
     while kill -0 $$ 2>/dev/null; do
         sleep 1
-        begun=$(find target/log -name '*.out' -newermt "@$((start - 1))" 2>/dev/null | wc -l)
-        last=$(ls -t target/log/*.out 2>/dev/null | head -n 1)
-        [ "$begun" -eq 0 ] || printf '\r%-70s' "$name: proving crate $begun of $total, $(basename "$last" .out) ($(seconds $(($(date +%s) - start))))" >&2
+        begun=$(awk -v total="$total" '/^rt: chose --jobs / && !seen[$NF]++ { begun++; last = $NF } END { if (begun) print begun " of " total ", " last }' "target/$1.log")
+        [ -z "$begun" ] || printf '\r%-70s' "$name: proving crate $begun ($(seconds $(($(date +%s) - start))))" >&2
     done
 }
 
-# CRATE RT-ARGUMENT..: has rt prove and build it, and says so. The sources are then as old as target/CRATE.began.
+# LOG: the first lines of it that tell why something is not proved, or else the last ones.
+why_not() {
+    awk '/error(\[[a-z-]*\])?:/ || /not proved/ || /no proof:/ || /did not build/ { if (told++ < 5) print }
+        { last[NR % 5] = $0 }
+        END { if (!told) for (i = NR - 4; i <= NR; i++) if (i > 0) print last[i % 5] }' "$1"
+}
+
+# CRATE VERB: by `rt VERB` in its folder the crate is proved and built, and this says so. The sources are then as old as target/CRATE.began.
 prove() {
     crate=$1
-    shift
     start=$(date +%s)
     moving=
     : >"target/$crate.began"
+    : >"target/$crate.log"
     if [ -t 2 ]; then
         # without the lock of take_turn, which it would hold for a moment after the end
         progress "$crate" 9>&- &
@@ -96,7 +103,7 @@ prove() {
         say 'proving and building, which takes some minutes the first time'
     fi
     failed=
-    rt "$@" >"target/$crate.log" 2>&1 </dev/null || failed=yes
+    (cd "crates/$crate" && rt "$2") >"target/$crate.log" 2>&1 </dev/null || failed=yes
     if [ -n "$moving" ]; then
         kill "$moving"
         wait "$moving" 2>/dev/null || :
@@ -104,7 +111,7 @@ prove() {
         printf '\r%-70s\r' '' >&2
         [ -n "$failed" ] || say "all $(sources "$crate" | wc -l) crates are proved, and it is built ($(seconds $(($(date +%s) - start))))"
     fi
-    [ -z "$failed" ] || { tail -n 5 "target/$crate.log" >&2; fail "it was not built, as it is not proved; $top/target/$crate.log has what rt said."; }
+    [ -z "$failed" ] || { why_not "target/$crate.log" >&2; fail "it was not built, as it is not proved; $top/target/$crate.log has what rt said."; }
 }
 
 # One proof at a time in this folder; it lasts until the shell that called this ends.
@@ -117,7 +124,12 @@ take_turn() {
     fi
 }
 
-# PROGRAM: sees that it is there and current, in a checkout.
+# PROGRAM BEGAN: from where rt left it to target/bin, as old as the file BEGAN. There it stays, whatever becomes of out/.
+keep() {
+    mkdir -p target/bin && cp "crates/$1/out/$1" "target/bin/$1.part" && touch -r "$2" "target/bin/$1.part" && mv -f "target/bin/$1.part" "target/bin/$1"
+}
+
+# PROGRAM: sees that it is there and current, in a checkout. `rt run` also runs it: with no argument and no input, which takes no time.
 make_current() (
     cd "$top" || exit 2
     if ! command -v rt >/dev/null; then
@@ -125,7 +137,7 @@ make_current() (
         current "$1" || fail 'a source is newer than the program, and there is no rt, the command of the Rattle toolchain, to prove it anew.'
     elif ! current "$1"; then
         take_turn
-        current "$1" || { prove "$1" check "$1" && touch -r "target/$1.began" "target/bin/$1"; }
+        current "$1" || { prove "$1" run && keep "$1" "target/$1.began"; } || fail "the program is built, and nothing can be written in $top/target/bin."
     fi
 )
 
