@@ -176,7 +176,7 @@ draw() {
     n=0
     while [ "$n" -lt "$count" ]; do
         n=$((n + 1))
-        pairs="$pairs \"\${$n}\" \"\$room/$n.pgm\""
+        pairs="$pairs \"\${$n}\" \"\$named/$n.pgm\""
     done
     eval "run_program \"\$budget\" \"\$set\" $pairs"
     if [ "$answers" = 'no set' ]; then
@@ -262,8 +262,11 @@ need_input "$@"
 
 make_ready picture
 room=$(mktemp -d "$folder/.picture.XXXXXX" 2>/dev/null) || fail "nothing can be written in $folder."
-trap 'rm -rf "$room"' EXIT
+trap 'rm -rf "$room" ${links:+"$links"}' EXIT
 trap 'exit 2' HUP INT PIPE TERM
+# named: the same folder, by the name that the program is given
+make_plain "$room"
+named=$plain
 while [ $# -gt 0 ]; do
     some=$(($# < most ? $# : most))
     draw "$some" "$@"

@@ -11,6 +11,8 @@ fi
 need_input "$@"
 
 make_ready plot
+trap '[ -z "$links" ] || rm -rf "$links"' EXIT
+trap 'exit 2' HUP INT PIPE TERM
 run_program "$@"
 count=$#
 status=0

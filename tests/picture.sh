@@ -259,6 +259,18 @@ is 2 '--out needs a folder after it.' picture --out
 is 2 "the folder $work/link/folder cannot be made." picture --pgm --out "$work/link/folder" examples/weeks.df
 is 2 '--pgm goes with --out; of one file give the name OUT.pgm.' picture --pgm examples/weeks.df
 [ -z "$(ls -A "$many")" ] || fail "in the folder of pictures there is $(ls -A "$many")"
+# ---- names of any bytes, here of Latin-1: of a file, of a set and of the folder of a picture
+odd=$(printf "$work/sp\344t")
+mkdir "$odd"
+cp "$work/a set" "$odd/set"
+cp examples/letters.df "$odd/letters.df"
+is 0 '' picture --set "$odd/set" "$odd/letters.df" "$odd/letters.pgm"
+shows "$odd/letters.pgm" letters 32768 "$work/a set"
+is 0 '' picture --pgm --out "$odd/many" "$odd/letters.df" examples/weeks.df
+shows "$odd/many/letters.pgm" letters
+shows "$odd/many/weeks.pgm" weeks
+[ -z "$(ls -A "$odd/many")" ] || fail 'another file was left in the folder of pictures'
+[ -z "$(find "${TMPDIR:-/tmp}" -maxdepth 1 -name 'roadparsnip.*' -newer "$odd/set" 2>/dev/null)" ] || fail 'a folder of links was left'
 
 # ---- what is wrong
 how='roadparsnip picture FILE OUT.png'

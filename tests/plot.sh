@@ -99,6 +99,15 @@ is 0 "$listed" '' sh -c 'cat examples/listed.df | ./roadparsnip plot'
 is 0 "$listed" '' sh -c 'cd "$0" && ./link plot "a file.df"' "$work"
 is 0 "$listed" '' sh -c 'cd "$0" && ./link plot -- -x.df' "$work"
 is 0 "$listed" '' sh -c 'cd / && "$0/roadparsnip" plot "$1/a file.df"' "$top" "$work"
+# names of any bytes: Latin-1, UTF-8, a newline
+for bytes in 'sp\344t' 'sp\303\244t' 'a\nb'; do
+    odd=$(printf "$work/$bytes.df")
+    cp examples/listed.df "$odd"
+    is 0 "$listed" '' plot "$odd"
+    is 0 "$listed" '' sh -c 'cd "$0" && ./link plot "${1##*/}"' "$work" "$odd"
+    is 2 "$listed${tab}$odd" "plot: there is no file $odd.df." plot "$odd.df" "$odd"
+done
+[ -z "$(find "${TMPDIR:-/tmp}" -maxdepth 1 -name 'roadparsnip.*' -newer "$work/link" 2>/dev/null)" ] || fail 'a folder of links was left'
 is 1 "$tag" '' plot examples/refused-13-tag.df
 is 0 "$listed${tab}examples/listed.df
 $weeks${tab}examples/weeks.df" '' plot examples/listed.df examples/weeks.df

@@ -152,8 +152,45 @@ make_ready() {
     fi
 }
 
+# The programs open names that are UTF-8 text, and a file's name may be any bytes. So a name with other bytes than those of ASCII is passed as a link.
+# links: a folder of ours, once there is one. The script removes it when it ends.
+links=
+
+# NAME: it has bytes of ASCII alone.
+is_plain() (
+    LC_ALL=C
+    case $1 in
+    *[!\ -\~]*) exit 1 ;;
+    esac
+)
+
+# NAME: `plain` is that name, or a link to it.
+make_plain() {
+    plain=$1
+    if is_plain "$1"; then return; fi
+    if [ -z "$links" ]; then
+        at=/tmp
+        if is_plain "${TMPDIR:-}"; then at=${TMPDIR:-/tmp}; fi
+        links=$(mktemp -d "$at/roadparsnip.XXXXXX" 2>/dev/null) || fail "nothing can be written in $at."
+        linked=0
+    fi
+    linked=$((linked + 1))
+    plain=$links/$linked
+    case $1 in
+    /*) ln -s "$1" "$plain" ;;
+    *) ln -s "$PWD/$1" "$plain" ;;
+    esac 2>/dev/null || fail "nothing can be written in $links."
+}
+
 # ARGUMENT..: the program's answers. Where it cannot be run, tools/run-x86 says why.
 run_program() {
+    if ! is_plain "$*"; then
+        for argument; do
+            shift
+            make_plain "$argument"
+            set -- "$@" "$plain"
+        done
+    fi
     answers=$("$top/tools/run-x86" "$program" "$@") || {
         ended=$?
         case $ended in
