@@ -72,7 +72,7 @@ host_start_16 = laws.start_16
 pub host_run_16 : (l : Lent) (m : HostMachine) (im : List ℕ) (b : ℕ) → ((host_run l m im b).result.answer ≡ 16) ↔ ((length im ≡ image_bytes) × (Accepted l.file × (HostFits m → ⊥)))
 host_run_16 = laws.run_16
 
--- ==== words in no segment decide nothing (of check: check-reads-the-header of Demands.antt)
+-- ==== words in no segment decide nothing (of check: check_reads_the_header of Demands.antt)
 -- in two files of one length with the same header and the same words in their segments, accepted or not, whatever else is lent
 pub host_run_of_one_length : (f h : List ℕ) → SameWords f h → length f ≡ length h → (l : Lent) (m : HostMachine) (im : List ℕ) (b : ℕ) → host_run (with_file l f) m im b ≡ host_run (with_file l h) m im b
 host_run_of_one_length f h s e l = laws.alike (with_file l f) (with_file l h) (demands.run_of_one_length f h s e l)
