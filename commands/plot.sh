@@ -11,9 +11,12 @@ fi
 need_input "$@"
 
 make_ready plot
+# the links of names, where there are any, go with the program's end
 trap '[ -z "$links" ] || rm -rf "$links"' EXIT
-trap 'exit 2' HUP INT PIPE TERM
+trap 'exit 2' HUP INT TERM
 run_program "$@"
+[ -z "$links" ] || rm -rf "$links"
+trap - EXIT HUP INT TERM
 count=$#
 status=0
 while IFS= read -r line; do

@@ -164,22 +164,22 @@ is_plain() (
     esac
 )
 
-# NAME: `plain` is that name, or a link to it.
+# NAME: `plain` is that name, or a link to it. Where no link can be made it is the name: of UTF-8 it serves as it is.
 make_plain() {
     plain=$1
     if is_plain "$1"; then return; fi
     if [ -z "$links" ]; then
         at=/tmp
         if is_plain "${TMPDIR:-}"; then at=${TMPDIR:-/tmp}; fi
-        links=$(mktemp -d "$at/roadparsnip.XXXXXX" 2>/dev/null) || fail "nothing can be written in $at."
+        links=$(mktemp -d "$at/roadparsnip.XXXXXX" 2>/dev/null) || return 0
         linked=0
     fi
     linked=$((linked + 1))
-    plain=$links/$linked
     case $1 in
-    /*) ln -s "$1" "$plain" ;;
-    *) ln -s "$PWD/$1" "$plain" ;;
-    esac 2>/dev/null || fail "nothing can be written in $links."
+    /*) ln -s "$1" "$links/$linked" ;;
+    *) ln -s "$PWD/$1" "$links/$linked" ;;
+    esac 2>/dev/null || return 0
+    plain=$links/$linked
 }
 
 # ARGUMENT..: the program's answers. Where it cannot be run, tools/run-x86 says why.
