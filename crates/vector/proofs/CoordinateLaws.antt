@@ -51,12 +51,12 @@ module _ (a b : ℤ) {s e : ℕ} (ps : pos s ≡ a +ℤ pos 2048) (pe : pos e �
   apart_down h = omega (whole, add a (pos 2048), add b (pos 2048), sub b a, abs (b -ℤ a))
 
 -- ---- by one
-by_up : (s d : ℤ) (i : ℕ) → pos 0 ≤ℤ d → by_one s d i ≡ s +ℤ pos i
+pub by_up : (s d : ℤ) (i : ℕ) → pos 0 ≤ℤ d → by_one s d i ≡ s +ℤ pos i
 unfolding by_one
 by_up s (pos k) i h = refl
 by_up s (negsuc k) i h = absurd h.le
 
-by_down : (s d : ℤ) (i : ℕ) → d <ℤ pos 0 → by_one s d i ≡ s -ℤ pos i
+pub by_down : (s d : ℤ) (i : ℕ) → d <ℤ pos 0 → by_one s d i ≡ s -ℤ pos i
 unfolding by_one
 by_down s (pos k) i h = absurd (omega whole)
 by_down s (negsuc k) i h = refl

@@ -54,6 +54,7 @@ fn by_one(start: Pixels, end: Pixels, i: u32) -> Pixels
 }
 
 // The point that lies i of n parts of the way from s to e, plus one half, rounded down.
+#[tactic(auto, using(crate::proofs::CoordinateLaws::parts_fit))]
 fn nearest(s: u32, e: u32, n: u32, i: u32) -> u32
     requires { (s < 4096) × (e < 4096) × (0 < n) × (n < 4096) × (i ≤ n) }
     ensures { result ≡ nearest_to s e n i }

@@ -22,19 +22,10 @@ use Rattle.course.specs.declared.Course.{Course}
 use Rattle.course.proofs.AxisLaws.{either, sound}
 use Rattle.course.proofs.FieldLaws.{within_is, within_cases}
 use Rattle.course.proofs.GoneLaws.{gone_most}
+use Rattle.vector.proofs.CoordinateLaws.{by_up, by_down}
 use Rattle.walk.specs.Walk.{Tells, Follows}
 
 -- ---- up or down
-by_up : (s d : ℤ) (i : ℕ) → pos 0 ≤ℤ d → by_one s d i ≡ s +ℤ pos i
-unfolding by_one
-by_up s (pos k) i h = refl
-by_up s (negsuc k) i h = absurd h.le
-
-by_down : (s d : ℤ) (i : ℕ) → d <ℤ pos 0 → by_one s d i ≡ s -ℤ pos i
-unfolding by_one
-by_down s (pos k) i h = absurd (omega whole)
-by_down s (negsuc k) i h = refl
-
 rounded_up : (s d : ℤ) (n i : ℕ) → 0 < n → pos 0 ≤ℤ d → rounded s d n i ≡ s +ℤ pos (gone n (nat_abs d) n i)
 unfolding rounded gone
 rounded_up s (negsuc m) n i h l = absurd l.le

@@ -1,3 +1,2 @@
-pub mod RaisedLaws
 pub mod CourseLaws
 pub mod WalkLaws

@@ -9,20 +9,20 @@ use native.Mathlib.Numerals.{add-one}
 use lib.Dec.{leb}
 use lib.IntN.{ℤ, pos, nat_abs}
 use lib.Signed.{le_z, lt_z}
-use borrow.Author.Tests.{eq-eqb, ne_eqb, leb-true, leb-false}
+use borrow.Author.Tests.{leb-true, leb-false}
 use Rattle.whole.specs.Parts.{whole, abs}
 use Rattle.definition.specs.Units.{pixel}
-use Rattle.definition.specs.Image.{Shape, Pen, square, below, in_field, inside, store, stores, left}
+use Rattle.definition.specs.Image.{Pen, square, below, in_field, inside, store, stores, left}
 use Rattle.definition.specs.Vector.{longer, nth, numbered, vector}
 use Rattle.definition.specs.declared.Pixel.{Pixel}
 use Rattle.definition.proofs.Plain.{both_true}
 use Rattle.definition.proofs.StoreLaws.{inside_append}
 use Rattle.image.specs.Drawn.{drawn}
-use Rattle.image.proofs.DrawnLaws.{drawn_more}
 use Rattle.course.specs.Course.{above, visible, mark, paces_of, stepped, marks, Spans}
 use Rattle.course.specs.declared.Course.{Course}
 use Rattle.course.specs.declared.Paces.{Paces}
 use Rattle.course.proofs.MarkLaws.{number_most, mark_number, marks_are}
+use Rattle.vector.proofs.WalkLaws.{vector_walked}
 use Rattle.walk.specs.Walk.{Tells, Follows, standing}
 
 -- ---- a turn of the loop
@@ -40,21 +40,6 @@ store_drawn pen im m l e = rw (in_field_is (m % above % 512) (m % above / 512) (
 pub marks_more : (p : Paces) (m i : ℕ) {at at' : ℕ} → at ≡ marks p m i → at' ≡ stepped p at → at' ≡ marks p m (i + 1)
 unfolding marks
 marks_more p m i e e' = rw (add-one i, ← e) e'
-
-pub walk_turn : (s : Shape) (pen : Pen) (im : List ℕ) (f : ℕ → Pixel) (i : ℕ) {p : Pixel} {n r : ℕ} {im' im'' : List ℕ}
-    → left n im' ≡ drawn s pen im (numbered f i) → p ≡ f i → left r im'' ≡ drawn s pen im' (p ∷ []) → left (n + r) im'' ≡ drawn s pen im (numbered f (i + 1))
-unfolding numbered
-walk_turn s pen im f i e ep d = rw (add-one i, ← ep) (drawn_more s pen im (numbered f i) _ e d)
-
--- ---- the vector's pixels, or one pixel
-module _ (a b : Pixel) where
-  pub vector_one : longer a b ≡ 0 → (a ∷ []) ≡ vector a b
-  unfolding vector
-  vector_one e = rw (eq-eqb (longer a b) 0 e)
-
-  vector_walked : 0 < longer a b → numbered (nth a b) (suc (longer a b)) ≡ vector a b
-  unfolding vector
-  vector_walked h = rw (ne_eqb (longer a b) 0 (λ e. absurd (omega arith)))
 
 -- ---- pixels by their numbers
 module _ (f : ℕ → Pixel) where
@@ -92,6 +77,9 @@ module _ (a b : Pixel) (c : Course) {first end : ℕ} (f : Follows a b c) (p : 0
   some : 0 < longer a b
   some = omega (arith, f.long)
 
+  walked : numbered (nth a b) (suc (longer a b)) ≡ vector a b
+  walked = vector_walked a b (suc (longer a b)) (λ e. absurd (omega arith)) refl
+
   tells : (i : ℕ) → i ≤ longer a b → Tells c i (nth a b i)
   tells = f.tells some
 
@@ -116,7 +104,7 @@ module _ (a b : Pixel) (c : Course) {first end : ℕ} (f : Follows a b c) (p : 0
   module _ (pen : Pen) (im : List ℕ) where
     pub drawn_none : end ≤ first → left 0 im ≡ drawn square pen im (vector a b)
     unfolding drawn stores
-    drawn_none l = rw (← vector_walked a b some, inside_none (nth a b) (suc (longer a b)) out)
+    drawn_none l = rw (← walked, inside_none (nth a b) (suc (longer a b)) out)
       where
         out : (i : ℕ) → i < suc (longer a b) → in_field square (nth a b i) ≡ false
         out i r = go (leb first i) refl
@@ -127,7 +115,7 @@ module _ (a b : Pixel) (c : Course) {first end : ℕ} (f : Follows a b c) (p : 0
 
     pub drawn_walked : {im' : List ℕ} {k : ℕ} → first + k ≡ end → left k im' ≡ drawn square pen im (numbered (λ i. standing (marks (paces_of c) (mark c first) i)) k) → left k im' ≡ drawn square pen im (vector a b)
     unfolding drawn
-    drawn_walked {im'} {k} e d = rw (← vector_walked a b some, all, ← same) d
+    drawn_walked {im'} {k} e d = rw (← walked, all, ← same) d
       where
         same : numbered (λ i. standing (marks (paces_of c) (mark c first) i)) k ≡ numbered (λ i. nth a b (first + i)) k
         same = numbered_same (λ i. standing (marks (paces_of c) (mark c first) i)) (λ i. nth a b (first + i)) k (λ i l. marks_stand i (omega arith))

@@ -1,7 +1,8 @@
 use mathlib.Core.Path.{sym, ◌∙◌}
 use native.Mathlib.Omega.{arith}
 use Rattle.definition.specs.Image.{ink_pen}
-use Rattle.walk.proofs.WalkLaws.{vector_one, marks_small, drawn_none, drawn_walked}
+use Rattle.vector.proofs.WalkLaws.{vector_one}
+use Rattle.walk.proofs.WalkLaws.{marks_small, drawn_none, drawn_walked}
 use Rattle.walk.proofs.draw.Goals as goal
 
 pub returns-then-c-eq0 : goal.returns-then-c-eq0

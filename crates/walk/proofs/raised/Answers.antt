@@ -1,4 +1,4 @@
-use Rattle.walk.proofs.RaisedLaws.{raised_fits, raised_cast, raised_is}
+use Rattle.vector.proofs.CoordinateLaws.{raised_fits, raised_cast, raised_is}
 use Rattle.walk.proofs.raised.Goals as goal
 
 pub overflow_add-result : goal.overflow_add-result

@@ -5,7 +5,8 @@ use Rattle.definition.specs.Vector.{numbered}
 use Rattle.image.specs.Drawn.{drawn}
 use Rattle.course.specs.Course.{marks}
 use Rattle.walk.specs.Walk.{standing}
-use Rattle.walk.proofs.WalkLaws.{walk_turn, store_drawn, marks_more}
+use Rattle.vector.proofs.WalkLaws.{walk_turn}
+use Rattle.walk.proofs.WalkLaws.{store_drawn, marks_more}
 use Rattle.walk.proofs.walk.Goals as goal
 
 pub loop-i-init : goal.loop-i-init
