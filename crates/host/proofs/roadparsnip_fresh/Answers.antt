@@ -1,5 +1,4 @@
 use mathlib.Core.Path.{ap, ◌∙◌}
-use borrow.Author.Rules.{rules}
 use Rattle.numbers.specs.Numbers.{numbers_of}
 use Rattle.host.proofs.roadparsnip_fresh.Goals as goal
 

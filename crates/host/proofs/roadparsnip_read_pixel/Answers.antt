@@ -1,4 +1,3 @@
-use borrow.Author.Rules.{rules}
 use Rattle.host.proofs.HostLaws.{host_read}
 use Rattle.host.proofs.roadparsnip_read_pixel.Goals as goal
 

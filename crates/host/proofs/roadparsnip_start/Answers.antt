@@ -1,4 +1,3 @@
-use borrow.Author.Rules.{rules}
 use Rattle.host.proofs.HostLaws.{host_started}
 use Rattle.host.proofs.roadparsnip_start.Goals as goal
 

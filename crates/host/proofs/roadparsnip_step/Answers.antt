@@ -1,4 +1,3 @@
-use borrow.Author.Rules.{rules}
 use Rattle.host.proofs.HostLaws.{host_ran}
 use Rattle.host.proofs.roadparsnip_step.Goals as goal
 
