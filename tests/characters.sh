@@ -31,7 +31,7 @@ for code, rows in cells.items():
 
 page = [int(byte, 16) for code in range(32, 127) for _, byte in cells[code]]
 source = re.sub(r"//.*", "", open("crates/cells/src/set.rt").read())
-ours = [int(number, 0) for number in re.findall(r"\b(?:0x[0-9A-Fa-f]+|\d+)\b", source.split("=", 1)[1])]
+ours = [int(number, 0) for number in re.findall(r"\b(?:0x[0-9A-Fa-f]+|\d+)\b", source.split("BUILT_IN", 1)[1].split("=", 1)[1])]
 for whose, bytes_ in [("crates/cells/src/set.rt", ours), ("second", list(open(sys.argv[1], "rb").read()))]:
     if bytes_ != page:
         wrong = next((i for i, (a, b) in enumerate(zip(bytes_, page)) if a != b), min(len(bytes_), len(page)))

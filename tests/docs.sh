@@ -1,7 +1,7 @@
 #!/bin/sh
-# docs/DEFINITION.md, docs/PROMISES.md and docs/VECTORS.md against the tree: every definition, example, theorem, function and edit that they name is there; DEFINITION.md names
-# every theorem and every function that another crate can call, PROMISES.md every promise and every edit of the machine and the calls. And the numbers of the
-# definition's tables are where people look for them.
+# The documents against the tree: every definition, example, theorem, function and edit that docs/DEFINITION.md and docs/PROMISES.md name is there, and every definition, law and
+# function that the other pages name; DEFINITION.md names every theorem and every function that another crate can call, a method or a conversion too, PROMISES.md every promise and
+# every edit of the machine and the calls. And the numbers of the definition's tables are where people look for them.
 set -eu
 cd "$(dirname "$0")/.."
 doc=docs/DEFINITION.md
@@ -13,7 +13,13 @@ trap 'rm -rf "$work"' EXIT
 quoted() { tr '\n' ' ' <"$1" | grep -o '`[^` ]*`' | tr -d '`' | sort -u; }
 quoted "$doc" >"$work/named"
 quoted docs/PROMISES.md >"$work/promised"
-quoted docs/VECTORS.md >"$work/walked"
+for page in README.md docs/*.md; do
+    case $page in
+    # the first is read more strictly; the others tell of code that was
+    docs/DEFINITION.md | docs/PORT.md | docs/DESIGN-PASS.md) ;;
+    *) quoted "$page" ;;
+    esac
+done | sort -u >"$work/told"
 failed=0
 
 # `File.name`: declared in a file of that name
@@ -24,10 +30,10 @@ while IFS=. read -r file name; do
         { echo "$doc names $file.$name, which is not there"; failed=1; }
 done <"$work/definitions"
 
-# docs/VECTORS.md: `File.name` is a law or a definition there, public or not; `crate::function` is checked below
-grep -E '^[A-Z][A-Za-z]*\.[A-Za-z][A-Za-z0-9_]*$' "$work/walked" | while IFS=. read -r file name; do
-    cat crates/*/specs/"$file".antt crates/*/proofs/"$file".antt 2>/dev/null | grep -Eq "^ *(abbrev |unfoldable )?(pub )?$name( |\$)" ||
-        { echo "docs/VECTORS.md names $file.$name, which is not there"; exit 1; }
+# the other pages: `File.name` is a law or a definition there, public or not; `crate::function` is checked below
+grep -E '^[A-Z][A-Za-z]*\.[A-Za-z][A-Za-z0-9_]*$' "$work/told" | grep -Ev '\.(antt|md)$' | while IFS=. read -r file name; do
+    cat crates/*/specs/"$file".antt crates/*/proofs/"$file".antt 2>/dev/null | grep -Eq "^ *(abbrev |unfoldable )?(pub )?(record |data )?$name( |\$)" ||
+        { echo "docs/ or README.md names $file.$name, which is not there"; exit 1; }
 done || failed=1
 
 # theorems: each is named
@@ -80,14 +86,34 @@ while read -r promise theorem; do
         { echo "docs/PROMISES.md or crates/host does not name $promise, or its theorem $theorem"; failed=1; }
 done <"$work/promises"
 
-# `crate::function`: in that crate's source; and each that is public is named
-sort -u "$work/named" "$work/walked" | sed -nE 's/^([a-z]+)::([a-z_0-9]+)$/\1 \2/p' >"$work/functions"
-while read -r crate function; do
-    grep -Eq "^(pub )?fn $function[<(]" "crates/$crate/src/lib.rt" 2>/dev/null ||
-        { echo "docs/ names the function $crate::$function, which is not there"; failed=1; }
+# `crate::function`, or `crate::Type::function` in an impl: in that crate's source; and each that is public is named. Those of a trait's impl are public, as `from` is,
+# unless the crate keeps the trait to itself
+# CRATE: a line for each function there, its name and whether another crate can call it
+functions() {
+    cat crates/"$1"/src/*.rt | awk -v crate="$1" '
+        /^(pub )?trait / { type = $0; sub(/.*trait /, "", type); sub(/[^A-Za-z0-9_].*/, "", type); trait = type; if (!/^pub /) kept[trait] = 1 }
+        /^impl/ {
+            type = $0; sub(/ *[{].*/, "", type); sub(/^impl(<[^>]*>)? */, "", type)
+            trait = ""; if (type ~ / for /) { trait = type; sub(/ for .*/, "", trait); sub(/<.*/, "", trait) }
+            sub(/.* for /, "", type); sub(/<.*/, "", type)
+        }
+        /^[}]/ { type = trait = "" }
+        match($0, /^ *(pub )?(extern "C" )?fn [a-z_0-9]+/) {
+            name = substr($0, 1, RLENGTH); sub(/.* /, "", name)
+            found[++n] = crate "::" (type == "" ? "" : type "::") name
+            open[n] = /^ *pub /; of[n] = trait
+        }
+        END { for (i = 1; i <= n; i++) print found[i], (open[i] || (of[i] != "" && !(of[i] in kept)) ? "public" : "own") }'
+}
+for crate in crates/*; do
+    functions "${crate#crates/}"
+done >"$work/there"
+sort -u "$work/named" "$work/told" | grep -E '^[a-z_]+::([A-Za-z0-9]+::)?[a-z_0-9]+$' >"$work/functions"
+while read -r function; do
+    grep -q "^$function " "$work/there" || { echo "docs/ or README.md names the function $function, which is not there"; failed=1; }
 done <"$work/functions"
-for crate in units image file words course vector walk cells outcome items letters orders machine run doors still display numbers host line text screen input; do
-    sed -nE "s/^pub fn ([a-z_0-9]+)[<(].*/$crate::\1/p" "crates/$crate/src/lib.rt"
+for crate in definition units image file words course vector walk cells outcome items letters orders machine run doors still display numbers host line text screen input; do
+    sed -n "s/^\($crate::.*\) public$/\1/p" "$work/there"
 done >"$work/public"
 while read -r function; do
     grep -qx -e "$function" "$work/named" || { echo "$doc does not name the function $function"; failed=1; }
@@ -106,6 +132,12 @@ for n in $answers; do
     grep -q "^  pub run_$n :" crates/demands/proofs/Demands.antt || { echo "answer $n has no theorem run_$n"; failed=1; }
     grep -Eq "^\| ([0-9]+, )*$n(, [0-9]+)* \| .*(run|all that answer)" "$doc" || { echo "$doc has no row for answer $n"; failed=1; }
 done
+# the refusals in code have the names and the numbers of the header, and 19, which no call of the header answers
+sed -nE 's/^    ([A-Z][A-Za-z]*) = ([0-9]+),$/\1 \2/p' crates/definition/src/lib.rt | sed 's/[A-Z]/_&/g; s/^/ROADPARSNIP/' | tr '[:lower:]' '[:upper:]' | sort >"$work/refusals"
+{
+    echo 'ROADPARSNIP_BAD_INPUT 19'
+    sed -nE '/^\/\* What a call answers/,/^};/s/^ *(ROADPARSNIP_[A-Z_]*) = ([0-9][0-9]).*/\1 \2/p' include/roadparsnip.h
+} | sort | diff "$work/refusals" - || { echo "include/roadparsnip.h has other refusals than the enum of crates/definition: < in the enum, > in the header"; failed=1; }
 for n in $refusals; do
     grep -q "^ *$n) echo '" tools/reasons.sh || { echo "tools/reasons.sh has no reason for $n"; failed=1; }
 done

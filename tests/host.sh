@@ -82,10 +82,14 @@ declared include/roadparsnip.h | grep -o 'roadparsnip_[a-z_]*(' | tr -d '(' | so
 nm=$(tools/cc-x86 -print-prog-name=nm)
 "$nm" -P -g --defined-only "$work/lib/libroadparsnip.a" | sed -n 's/ [A-Za-z] .*//p' | sort | diff "$work/functions" - ||
     fail 'other names than the header declares: < as declared, > as the library has them'
-# The function that lays the built-in characters out is one of its own, and so is the loop of a run: neither that loop nor a call has their 760 bytes.
-for own in run::go_on run::walk; do
-    "$nm" "$work/lib/libroadparsnip.a" | grep -q " t $own\$" || fail "$own is no function of its own: see Characters in docs/PERFORMANCE.md"
-done
+# The loop of a run is a function of its own. The built-in characters are a constant: no function lays their 760 bytes out on the stack.
+"$nm" "$work/lib/libroadparsnip.a" | grep -q ' t run::walk$' || fail 'run::walk is no function of its own: see Refusals in docs/PERFORMANCE.md'
+objdump=$(tools/cc-x86 -print-prog-name=objdump)
+"$objdump" -d "$work/lib/libroadparsnip.a" | sed -n 's/.*sub *\$0x\([0-9a-f]*\),%rsp.*/\1/p' >"$work/frames"
+[ -s "$work/frames" ] || fail 'no function of the library takes stack, as objdump shows it'
+while read -r frame; do
+    [ "$((0x$frame))" -lt 760 ] || fail "a function of the library takes $((0x$frame)) bytes of stack: see Characters in docs/PERFORMANCE.md"
+done <"$work/frames"
 
 # ---- what C calls: each function of crates/host, with its parameters, its result and its clauses, exported under its name
 # CRATE: a line for each of its public functions: all that stands before the body

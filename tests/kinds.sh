@@ -5,9 +5,9 @@ set -eu
 cd "$(dirname "$0")/.."
 work=$(mktemp -d)
 trap 'rm -rf "$work"' EXIT
-mkdir -p "$work/crates/definition/src" "$work/crates/kinds/src"
-cp crates/definition/src/lib.rt "$work/crates/definition/src/lib.rt"
-printf 'definition:\nkinds: definition\n' >"$work/crates.txt"
+mkdir -p "$work/crates/kinds/src"
+cp -r crates/whole crates/definition "$work/crates"
+printf 'whole:\ndefinition: whole\nkinds: definition whole\n' >"$work/crates.txt"
 git init -q "$work"
 
 # BODY PARAMETER RESULT: whether the prover takes a function with this body, from this type to that.
@@ -48,26 +48,46 @@ refused 'same_units(value)' Pixels Units Units
 refused 'same_pixels(value)' i32 Pixels Pixels
 refused 'same_units(value)' i32 Units Units
 
-# every function that is given units, and answers pixels
-crossing=$(cat crates/*/src/*.rt | sed -n 's/^\(pub \)*fn \([a-z_0-9]*\)(.*Units.*) -> Pixels\{0,1\}$/\2/p' | tr '\n' ' ')
+# every function that is given units, and answers pixels: a method of a type too, and one whose head is on several lines
+cat crates/*/src/*.rt | awk '
+    /^impl/ { type = $0; sub(/ *[{].*/, "", type); sub(/^impl(<[^>]*>)? */, "", type); sub(/.* for /, "", type); sub(/<.*/, "", type) }
+    /^[}]/ { type = "" }
+    !head && /^ *(pub )?fn / { head = 1; text = "" }
+    head { line = $0; gsub(/\[[^]]*\]/, "[]", line); text = text " " line }
+    head && line ~ /[{;]/ {
+        head = 0
+        sub(/ (requires|ensures) .*/, "", text)
+        gsub(/[^A-Za-z0-9_>-]self[^A-Za-z0-9_:]/, "&: " type " ", text)
+        gsub(/(^|[^A-Za-z0-9_])Self([^A-Za-z0-9_]|$)/, " " type " ", text)
+        given = answered = text
+        sub(/ -> .*/, "", given)
+        if (!sub(/.* -> /, "", answered)) answered = ""
+        if (given ~ /[^A-Za-z0-9_]Units([^A-Za-z0-9_]|$)/ && answered ~ /(^|[^A-Za-z0-9_])Pixels?([^A-Za-z0-9_]|$)/) {
+            sub(/^ *(pub )?fn /, "", text)
+            sub(/[^a-z_0-9].*/, "", text)
+            print text
+        }
+    }' >"$work/crossing"
+crossing=$(tr '\n' ' ' <"$work/crossing")
 [ "$crossing" = 'pixels_of pixel_at ' ] || { echo "kinds: from units to pixels lead: $crossing"; exit 1; }
 
-# ---- bare numbers: which functions make units or pixels of one, or open either by .0, how often, and why
+# ---- bare numbers: which functions make units or pixels of one, or open either by .0, how often, and why. A method stands under its type
 sed '/^#/d' >"$work/listed" <<'END'
 # the halving, which alone opens the one kind and makes the other
 units::pixels_of Pixels 1 opens 1
-# units of bits, moved, and asked for their range; an index of a pixel
-units::move_of Units 2
-units::moved_to Units 1 opens 2
+# units of the bits of a word, a move by its sign and a coordinate
+units::move_of Units 1
+words::coordinate Units 1
+# units moved, and asked for their range; an index of a pixel
 units::may_move opens 2
 units::moved_by Units 1 opens 2
 units::in_range opens 1
 units::index_in opens 1
 # pixels of a vector, of its two end pixels
 vector::raised opens 1
-vector::by_one Pixels 2 opens 2
-vector::rounded Pixels 1
-walk::raised opens 1
+vector::Axis::size opens 2
+vector::Axis::by_one Pixels 1 opens 2
+vector::Axis::rounded Pixels 1
 # position (0, 0); the increment, which is in units
 still::fresh Units 2
 line::refused Units 2
@@ -79,11 +99,11 @@ cells::further Pixels 1 opens 1
 cells::is_aside opens 2
 # a host's numbers: X and Y of its machine are units, those of the pixel that it reads are pixels
 numbers::machine_of Units 2
-numbers::numbers_of opens 2
+numbers::HostMachine::from opens 2
 host::roadparsnip_read_pixel Pixels 2
 # X and Y of a machine, printed: units
 text::size opens 1
-text::put_signed opens 1
+text::text_of_line opens 2
 # cases of second/, and what came out, as bytes: each number is of the kind that the case has there
 parts::units_case Units 5 opens 4
 parts::image_case Pixels 2
@@ -111,12 +131,15 @@ for source in crates/*/src/*.rt; do
             count["Pixels"] = count["Units"] = count["opens"] = 0
         }
         { sub(/\/\/.*/, ""); sub(/[)] -> .*/, "") }
-        /^ *(pub )?struct / || /^ *(requires|ensures) / { next }
-        match($0, /^ *(pub )?(extern "C" )?fn [a-z_0-9]+/) { state(); name = substr($0, 1, RLENGTH); sub(/.* /, "", name) }
+        /^ *(pub )?(struct|ghost) / || /^ *(requires|ensures) / { next }
+        /^impl/ { type = $0; sub(/ *[{].*/, "", type); sub(/^impl(<[^>]*>)? */, "", type); sub(/.* for /, "", type); sub(/<.*/, "", type); next }
+        /^[}]/ { type = "" }
+        match($0, /^ *(pub )?(extern "C" )?fn [a-z_0-9]+/) { state(); name = substr($0, 1, RLENGTH); sub(/.* /, "", name); if (type != "") name = type "::" name }
         { counted("Pixels", "(^|[^A-Za-z0-9_])Pixels *[({]"); counted("Units", "(^|[^A-Za-z0-9_])Units *[({]") }
         { counted("opens", "([A-Za-z_][A-Za-z0-9_]*|[])])[.]0([^0-9]|$)") }
-        # under another name it would not be seen
-        /(Units|Pixels) as / || /type .*(Units|Pixels);/ { print crate "::" name " has another name for a kind: " $0 }
+        # under another name, or as a function that is handed on, it would not be seen
+        /(Units|Pixels) as / || /type .*(Units|Pixels);/ || ((type == "Units" || type == "Pixels") && /Self *[({]/) { print crate "::" name " has another name for a kind: " $0 }
+        /[(](Units|Pixels) *[),]/ || /[(][^:]*, *(Units|Pixels) *[),]/ { print crate "::" name " hands a kind on as a function: " $0 }
         END { state() }' "$source"
 done | sort >"$work/found"
 sort "$work/listed" | diff - "$work/found" >"$work/out" || {

@@ -95,10 +95,10 @@ RULES = [
     (WRONG, 'offset size swapped', 'File', 'offset f i = get_or f (2 + 2 * i) 0', 'offset f i = get_or f (3 + 2 * i) 0'),
     (WRONG, 'segment by w/4095', 'File', 'a / 2 / 4096', 'a / 2 / 4095'),
     (WRONG, 'place mod 4095', 'File', 'a / 2 % 4096', 'a / 2 % 4095'),
-    (WRONG, 'odd taken', 'File', 'pick (not (eqb (a % 2) 0)) (Refused Odd)\n    (pick', '(pick'),
+    (WRONG, 'odd taken', 'File', 'pick (not (eqb (a % 2) 0)) (Err Odd)\n    (pick', '(pick'),
     (WRONG, 'segment n taken', 'File', 'leb (segments f) (segment_of a)', 'ltb (segments f) (segment_of a)'),
     (WRONG, 'place at length', 'File', 'leb (size f (segment_of a)) (place_of a)', 'ltb (size f (segment_of a)) (place_of a)'),
-    (WRONG, 'no offset in fetch', 'File', '(Word (get_or f (offset f (segment_of a) + place_of a) 0))', '(Word (get_or f (header f + place_of a) 0))'),
+    (WRONG, 'no offset in fetch', 'File', '(Ok (get_or f (offset f (segment_of a) + place_of a) 0))', '(Ok (get_or f (header f + place_of a) 0))'),
     (WRONG, '21 22 numbers', 'File', 'number_of NoSegment = 22', 'number_of NoSegment = 21'),
     # ---- Words
     (WRONG, 'code bits', 'Words', 'code w = bits 14 11 w', 'code w = bits 13 11 w'),

@@ -1,51 +1,33 @@
 // What the parts answered, written into a record: crates/parts/src/main.rt has the layout.
 #![tactic(auto)]
 
-use definition::{Fetched, Instruction, Item, Order, Unfetched, Units};
-use units::{Index, Moved};
+use definition::{Instruction, Item, Order, Refusal, Unfetched, Units};
 
-pub fn put_moved(record: &mut [u8], moved: Moved) {
-    match moved {
-        Moved::To(u) => {
-            records::put_signed(record, 16, u.0);
-            records::put(record, 20, 1);
-        }
-        Moved::Out => {}
+pub fn put_moved(record: &mut [u8], moved: Option<Units>) {
+    if let Some(u) = moved {
+        records::put_signed(record, 16, u.0);
+        records::put(record, 20, 1);
     }
 }
 
-pub fn put_index(record: &mut [u8], index: Index) {
-    match index {
-        Index::At(i) => {
-            records::put(record, 21, 1);
-            records::put_word(record, 22, (i % 65536) as u16);
-        }
-        Index::Outside => {}
+pub fn put_index(record: &mut [u8], index: Option<usize>) {
+    if let Some(i) = index {
+        records::put(record, 21, 1);
+        records::put_word(record, 22, (i % 65536) as u16);
     }
 }
 
-pub fn put_fetched(record: &mut [u8], i: usize, f: Fetched) {
+pub fn put_fetched(record: &mut [u8], i: usize, fetched: Result<u16, Unfetched>) {
     if i > 65536 {
         return;
     }
-    match f {
-        Fetched::Word(w) => {
-            records::put_word(record, i + 1, w);
-        }
-        Fetched::Refused(why) => {
-            records::put(record, i, number_of_refusal(why));
-        }
+    match fetched {
+        Ok(word) => records::put_word(record, i + 1, word),
+        Err(why) => records::put(record, i, u8::from(Refusal::from(why))),
     }
 }
 
-fn number_of_refusal(why: Unfetched) -> u8 {
-    match why {
-        Unfetched::Odd => 21,
-        Unfetched::NoSegment => 22,
-        Unfetched::NoPlace => 23,
-    }
-}
-
+// Numbers, as the bytes of a record that second/ reads.
 #[derive(Clone, Copy)]
 struct Account {
     kind: u8,
@@ -60,14 +42,15 @@ pub fn put_account(record: &mut [u8], i: usize, mode: u8, word: u16) {
     if i > 65536 {
         return;
     }
-    let refusal = words::first_refusal(mode, word);
-    records::put(record, i, refusal);
-    if refusal > 0 {
+    if let Err(why) = words::first_refusal(mode, word) {
+        records::put(record, i, u8::from(why));
         return;
     }
     let a = account_of(words::decode(mode, word));
-    records::put_word(record, i + 1, records::word_of(a.kind, a.flag));
-    records::put_word(record, i + 3, records::word_of(a.setting, a.more));
+    records::put(record, i + 1, a.kind);
+    records::put(record, i + 2, a.flag);
+    records::put(record, i + 3, a.setting);
+    records::put(record, i + 4, a.more);
     records::put_signed(record, i + 5, a.x);
     records::put_signed(record, i + 9, a.y);
 }
@@ -75,7 +58,7 @@ pub fn put_account(record: &mut [u8], i: usize, mode: u8, word: u16) {
 fn account_of(instruction: Instruction) -> Account {
     match instruction {
         Instruction::Does(order) => order_account(order),
-        Instruction::Draws { lit, item } => item_account(records::number_of(lit), item),
+        Instruction::Draws { lit, item } => item_account(u8::from(lit), item),
     }
 }
 
@@ -84,27 +67,19 @@ fn order_account(order: Order) -> Account {
         Order::SetMode(b) => setting(1, b.sets, b.value, b.mode),
         Order::Jump => setting(2, false, 0, 0),
         Order::NoOp => setting(3, false, 0, 0),
-        Order::StatusA(b) => setting(
-            4,
-            b.loads,
-            records::number_of(b.latch),
-            records::number_of(b.stops),
-        ),
+        Order::StatusA(b) => setting(4, b.loads, u8::from(b.latch), u8::from(b.stops)),
         Order::Increment(b) => setting(5, b.sets, b.increment, 0),
-        Order::StatusC(b) => setting(6, b.channel == 0, records::number_of(b.write), 0),
+        Order::StatusC(b) => setting(6, b.channel == 0, u8::from(b.write), 0),
     }
 }
 
+// The flag and the value go into bytes of their own, as the record has them.
 fn setting(kind: u8, sets: bool, v: u8, more: u8) -> Account {
-    let mut setting = 0;
-    if sets {
-        setting = v;
-    }
     Account {
-        kind: kind,
-        flag: records::number_of(sets),
-        setting: setting,
-        more: more,
+        kind,
+        flag: u8::from(sets),
+        setting: if sets { v } else { 0 },
+        more,
         x: 0,
         y: 0,
     }
@@ -119,14 +94,14 @@ fn item_account(lit: u8, item: Item) -> Account {
         Item::GraphY { y } => moves(11, lit, Units(0), y),
         Item::RelativePoint { x, y } => moves(12, lit, x, y),
         Item::Characters { first, second } => {
-            moves(13, lit, Units(first as i32), Units(second as i32))
+            moves(13, lit, Units(i32::from(first)), Units(i32::from(second)))
         }
     }
 }
 
 fn moves(kind: u8, lit: u8, x: Units, y: Units) -> Account {
     Account {
-        kind: kind,
+        kind,
         flag: lit,
         setting: 0,
         more: 0,

@@ -1,25 +1,23 @@
 -- The cell of a code, and the coordinates in a cell, over plain variables.
-use Prim.Native.Nat.{ℕ, ◌-◌, ◌*◌, ◌<◌, ◌≤◌}
+use Prim.Native.Nat.{ℕ, ◌-◌, ◌*◌, ◌≤◌}
 use mathlib.Core.Bool.{true, false}
-use mathlib.Core.Path.{◌≡◌, ap}
+use mathlib.Core.Path.{◌≡◌}
 use mathlib.Core.List.{List}
 use native.Mathlib.Omega.{arith}
 use lib.Dec.{leb}
 use lib.ListN.{length, drop, length-drop}
 use lib.Seq.{length-take-le}
-use lib.IntN.{pos, negsuc, ◌+ℤ◌}
+use lib.IntN.{pos, negsuc}
 use lib.Signed.{lt_z}
 use mir.Syntax.{w32}
-use mir.Val.{SFits, to_z}
-use mir.Facts.{to_z-of_z, to_z_pos}
-use Rattle.whole.specs.Parts.{whole, add}
-use Rattle.whole.specs.Bits.{rd, op_fits, op_back}
-use Rattle.definition.specs.Units.{pixels}
+use mir.Val.{SFits}
+use mir.Facts.{to_z-of_z}
+use Rattle.whole.specs.Bits.{rd}
 use Rattle.definition.specs.Words.{is_code}
 use Rattle.definition.specs.Characters.{set_bytes, cell_of}
 use Rattle.definition.specs.declared.Pixels.{Pixels}
 use Rattle.definition.proofs.Plain.{both_true, is_most}
-use Rattle.cells.specs.Cell.{Near, aside}
+use Rattle.cells.specs.Cell.{aside}
 
 -- ---- the cell
 pub code_bounds : (c : ℕ) → is_code c ≡ true → (32 ≤ c) × (c ≤ 126)
@@ -39,20 +37,3 @@ module _ (p : Pixels) (f : SFits w32 p.0) where
   pub not_left_of : lt_z (rd w32 p.0) (negsuc 6) ≡ false → lt_z (pos 511) (rd w32 p.0) ≡ aside p.0
   unfolding aside
   not_left_of t = rw (to_z-of_z f, rw (to_z-of_z f) at t)
-
--- ---- a coordinate k further
-module _ (p : Pixels) (k : ℕ) (h : Near p) (hk : k < 8) where
-  fits : SFits w32 p.0
-  fits = omega whole
-
-  room : SFits w32 (p.0 +ℤ pos k)
-  room = omega (whole, add p.0 (pos k))
-
-  step : to_z w32 k ≡ pos k
-  step = to_z_pos w32 (omega whole)
-
-  pub further_fits : SFits w32 (rd w32 p.0 +ℤ to_z w32 k)
-  further_fits = op_fits ◌+ℤ◌ (to_z-of_z fits) step room
-
-  pub further_is : pixels (rd w32 (rd w32 p.0 +ℤ to_z w32 k)) ≡ pixels (p.0 +ℤ pos k)
-  further_is = ap pixels (op_back ◌+ℤ◌ (to_z-of_z fits) step room)

@@ -1,7 +1,7 @@
 -- Laws of drawing one list of pixels after another: a bit, a turn of a loop, a row, and how many pixels are stored at most.
 use Prim.Native.Nat.{ℕ, zero, suc, ◌+◌, ◌-◌, ◌<◌, ◌≤◌}
-use mathlib.Core.Bool.{Bool, true, false, and-false}
-use mathlib.Core.Path.{◌≡◌, refl, sym, ◌∙◌}
+use mathlib.Core.Bool.{Bool, true, false, not, and-false}
+use mathlib.Core.Path.{◌≡◌, refl, sym, ap, ◌∙◌}
 use mathlib.Core.List.{List, [], ◌∷◌}
 use mathlib.Core.Logic.{⊎_elim}
 use native.Mathlib.Omega.{arith}
@@ -20,20 +20,23 @@ use Rattle.definition.proofs.Exactly.{apart}
 use Rattle.definition.proofs.Plain.{both_true, either_true}
 use Rattle.definition.proofs.StoreLaws.{inside_append}
 use Rattle.units.specs.Answers.{index_in}
-use Rattle.units.specs.declared.Index.{Index}
-use Rattle.units.specs.declared.Index.TheVariants.{At, Outside}
 use Rattle.units.proofs.AnswerLaws.{index_at, index_outside}
 use Rattle.image.specs.Drawn.{drawn}
 use Rattle.image.proofs.DrawnLaws.{drawn_then}
 use Rattle.image.proofs.DrawnLaws.{drawn_few}
-use Rattle.image.proofs.CellCounts.{bit_few, row_few, cell_few}
-use Rattle.cells.specs.Cell.{dot, aside, bit_pixels, row_at}
+use Rattle.image.proofs.CellCounts.{row_few, cell_few}
+use Rattle.std.specs.Prelude.{Option, Some, None, is_some}
+use Rattle.cells.specs.Cell.{aside, bit_pixels, row_at}
 
 -- ---- one list after another
+drawn_nothing : (s : Shape) (pen : Pen) (im : List ℕ) → left 0 im ≡ drawn s pen im []
+unfolding drawn inside stores
+drawn_nothing s pen im = refl
+
 module _ (s : Shape) (pen : Pen) (im : List ℕ) where
-  pub drawn_none : left 0 im ≡ drawn s pen im []
-  unfolding drawn inside stores
-  drawn_none = refl
+  pub drawn_none : (f : ℕ → List Pixel) → left 0 im ≡ drawn s pen im (gathered f 0)
+  unfolding gathered
+  drawn_none f = drawn_nothing s pen im
 
   -- a turn of a drawing loop
   pub drawn_turn : (f : ℕ → List Pixel) (k : ℕ) {n r : ℕ} {im' im'' : List ℕ} → left n im' ≡ drawn s pen im (gathered f k) → left r im'' ≡ drawn s pen im' (f k) → left (n + r) im'' ≡ drawn s pen im (gathered f (k + 1))
@@ -46,28 +49,22 @@ module _ (s : Shape) (pen : Pen) (im : List ℕ) where
       let z : n + 0 ≡ n = omega arith in
       rw z at (drawn_turn f k e d)
 
-  -- ---- a bit
-  module _ (p : Pixel) {on : Bool} where
-    pub bit_set : {r : ℕ} {im' : List ℕ} → on ≡ true → left r im' ≡ drawn s pen im (p ∷ []) → left r im' ≡ drawn s pen im (dot on p)
-    unfolding dot
-    bit_set e d = rw e d
+  -- ---- a turn of a row's loop, by its bit
+  module _ (x y : ℤ) (row k : ℕ) {on : Bool} {n : ℕ} {im' : List ℕ} (eo : on ≡ is_set row k) (e : left n im' ≡ drawn s pen im (gathered (bit_pixels x y row) k)) where
+    pub bit_lit : {r : ℕ} {im'' : List ℕ} → on ≡ true → left r im'' ≡ drawn s pen im' (pixel (x +ℤ pos k) y ∷ []) → left (n + r) im'' ≡ drawn s pen im (gathered (bit_pixels x y row) (k + 1))
+    bit_lit t d =
+        let one : bit_pixels x y row k ≡ pixel (x +ℤ pos k) y ∷ [] = ap (λ (b : Bool). pick b (pixel (x +ℤ pos k) y ∷ []) []) (sym eo ∙ t) in
+        drawn_turn (bit_pixels x y row) k e (rw one d)
 
-    pub bit_clear : on ≡ false → left 0 im ≡ drawn s pen im (dot on p)
-    unfolding dot
-    bit_clear e = rw e drawn_none
-
--- a turn of a row's loop: p is the pixel of bit k
-pub row_turn : (s : Shape) (pen : Pen) (im : List ℕ) (x y : ℤ) (row k : ℕ) {on : Bool} {p : Pixel} {n r : ℕ} {im' im'' : List ℕ}
-    → left n im' ≡ drawn s pen im (gathered (bit_pixels x y row) k) → on ≡ is_set row k → p ≡ pixel (x +ℤ pos k) y → left r im'' ≡ drawn s pen im' (dot on p)
-    → left (n + r) im'' ≡ drawn s pen im (gathered (bit_pixels x y row) (k + 1))
-unfolding dot
-row_turn s pen im x y row k e eo ep d = drawn_turn s pen im (bit_pixels x y row) k e (rw (eo, ep) at d)
+    pub bit_dark : on ≡ false → left n im' ≡ drawn s pen im (gathered (bit_pixels x y row) (k + 1))
+    bit_dark t =
+        let none : bit_pixels x y row k ≡ [] = ap (λ (b : Bool). pick b (pixel (x +ℤ pos k) y ∷ []) []) (sym eo ∙ t) in
+        drawn_skip (bit_pixels x y row) k e (rw none (drawn_nothing s pen im'))
 
 -- ---- how many at most
 module _ (s : Shape) (pen : Pen) (im : List ℕ) {r : ℕ} {im' : List ℕ} where
-  pub bit_at_most : (on : Bool) (p : Pixel) → left r im' ≡ drawn s pen im (dot on p) → r ≤ 1
-  unfolding dot
-  bit_at_most on p d = omega (arith, drawn_few s pen im (dot on p) d, bit_few on p)
+  pub one_at_most : (p : Pixel) → left r im' ≡ drawn s pen im (p ∷ []) → r ≤ 1
+  one_at_most p d = drawn_few s pen im (p ∷ []) d
 
   pub row_at_most : (x y : ℤ) (row : ℕ) → left r im' ≡ drawn s pen im (row_pixels x y row) → r ≤ 8
   row_at_most x y row d = omega (arith, drawn_few s pen im (row_pixels x y row) d, row_few x y row)
@@ -98,11 +95,18 @@ module _ (s : Shape) (on : Bool) (x y : ℤ) where
   unfolding in_field
   past e = hidden (rw e)
 
-index_is : (n : ℕ) (p : Pixels) {i : ℕ} → index_in n p ≡ At i → p.0 ≡ pos i
+index_is : (n : ℕ) (p : Pixels) {i : ℕ} → index_in n p ≡ Some i → p.0 ≡ pos i
 index_is n p e =
     let w = index_at n p e in
     let b = (both_true {s = le_z (pos 0) p.0} {t = lt_z p.0 (pos n)}).0 w.0 in
     omega (whole, abs p.0, w.1)
+
+pub missed : (n : ℕ) (p : Pixels) {g : Option ℕ} {none : Bool} {z : ℤ} → g ≡ index_in n p → is_some g ≡ not none → p ≡ pixels z → none ≡ true → below n z ≡ false
+missed n p {g} {none} {z} e k h t = go g e (k ∙ ap not t)
+  where
+    go : (g : Option ℕ) → g ≡ index_in n p → is_some g ≡ false → below n z ≡ false
+    go None f o = ap (λ (q : Pixels). below n q.0) (sym h) ∙ index_outside n p (sym f)
+    go (Some i) f o = absurd (apart o)
 
 -- ---- a bit that is in the field
 below_is : (n x : ℕ) → x < n → below n (pos x) ≡ true
@@ -111,39 +115,10 @@ below_is n x h =
     let r : lt_z (pos x) (pos n) ≡ true = omega whole in
     rw (l, r)
 
--- ---- the index of a field in a larger one: outside of that, inside of both, and between the two
-narrower : (n k : ℕ) (z : ℤ) → k ≤ n → below n z ≡ false → below k z ≡ false
-narrower n k z h f = go (below k z) refl
-  where
-    go : (t : Bool) → below k z ≡ t → below k z ≡ false
-    go true e =
-        let b = (both_true {s = le_z (pos 0) z} {t = lt_z z (pos k)}).0 e in
-        let r : lt_z z (pos n) ≡ true = omega whole in
-        let w : below n z ≡ true = rw (b.0, r) in
-        absurd (apart (sym w ∙ f))
-    go false e = e
-
-module _ (n k : ℕ) (p : Pixels) {g : Index} (e : g ≡ index_in n p) where
-  pub outside_both : k ≤ n → g ≡ Outside → Outside ≡ index_in k p
-  unfolding index_in
-  outside_both h o = rw (narrower n k p.0 h (index_outside n p (sym e ∙ o)))
-
-  module _ {i : ℕ} (a : g ≡ At i) where
-    pub inside_both : i < k → At i ≡ index_in k p
-    unfolding index_in
-    inside_both h = rw (index_is n p (sym e ∙ a), below_is k i h)
-
-    pub between : k ≤ i → Outside ≡ index_in k p
-    unfolding index_in
-    between h =
-        let l : le_z (pos 0) (pos i) ≡ true = omega whole in
-        let r : lt_z (pos i) (pos k) ≡ false = omega whole in
-        rw (index_is n p (sym e ∙ a), l, r)
-
-pub bit_stored : (s : Shape) (pen : Pen) (im : List ℕ) (x y : ℕ) {on : Bool} {im' : List ℕ} → on ≡ true → x < s.width → y < s.height → im' ≡ store s pen im x y
-    → left 1 im' ≡ drawn s pen im (dot on (pixel (pos x) (pos y)))
-unfolding dot drawn inside in_field stores
-bit_stored s pen im x y e hx hy st = rw (e, below_is s.width x hx, below_is s.height y hy, st)
+module _ (s : Shape) (pen : Pen) (im : List ℕ) {x y : ℕ} {im' : List ℕ} (hx : x < s.width) (hy : y < s.height) (st : im' ≡ store s pen im x y) where
+  pub one_stored : left 1 im' ≡ drawn s pen im (pixel (pos x) (pos y) ∷ [])
+  unfolding drawn inside in_field stores
+  one_stored = rw (below_is s.width x hx, below_is s.height y hy, st)
 
 -- ---- a row with no bit set, and one above or below the field
 module _ (s : Shape) (pen : Pen) (im : List ℕ) where
@@ -151,21 +126,20 @@ module _ (s : Shape) (pen : Pen) (im : List ℕ) where
   unfolding drawn inside stores row_pixels gathered
   row_empty x y e = rw e
 
-  row_beside : (x : ℤ) (y : Pixels) (row : ℕ) → below s.height y.0 ≡ false → left 0 im ≡ drawn s pen im (row_pixels x y.0 row)
+  row_beside : (x y : ℤ) (row : ℕ) → below s.height y ≡ false → left 0 im ≡ drawn s pen im (row_pixels x y row)
   unfolding drawn stores row_pixels
-  row_beside x y row o = rw (none_inside s (bit_pixels x y.0 row) 8 (λ k _. beside s (is_set row k) (x +ℤ pos k) y.0 o))
+  row_beside x y row o = rw (none_inside s (bit_pixels x y row) 8 (λ k _. beside s (is_set row k) (x +ℤ pos k) y o))
 
 -- ---- a turn of a cell's loop: the line of row i is drawn, has no bit set, or is above or below the field
 module _ (s : Shape) (pen : Pen) (im : List ℕ) (corner : Pixel) (cell : List ℕ) (i : ℕ) {n : ℕ} {im' : List ℕ} (e : left n im' ≡ drawn s pen im (gathered (row_at corner cell) i)) where
   pub cell_empty : get_or cell i 0 ≡ 0 → left n im' ≡ drawn s pen im (gathered (row_at corner cell) (i + 1))
   cell_empty z = drawn_skip s pen im (row_at corner cell) i e (row_empty s pen im' corner.x.0 (corner.y.0 +ℤ pos (7 - i)) z)
 
-  module _ {yr : Pixels} (ey : yr ≡ pixels (corner.y.0 +ℤ pos (7 - i))) where
-    pub cell_beside : {gy : Index} → gy ≡ index_in s.height yr → gy ≡ Outside → left n im' ≡ drawn s pen im (gathered (row_at corner cell) (i + 1))
-    cell_beside g o = drawn_skip s pen im (row_at corner cell) i e (rw ey at (row_beside s pen im' corner.x.0 yr (get_or cell i 0) (index_outside s.height yr (sym g ∙ o))))
+  pub cell_beside : below s.height (corner.y.0 +ℤ pos (7 - i)) ≡ false → left n im' ≡ drawn s pen im (gathered (row_at corner cell) (i + 1))
+  cell_beside o = drawn_skip s pen im (row_at corner cell) i e (row_beside s pen im' corner.x.0 (corner.y.0 +ℤ pos (7 - i)) (get_or cell i 0) o)
 
-    pub cell_turn : {r : ℕ} {im'' : List ℕ} → left r im'' ≡ drawn s pen im' (row_pixels corner.x.0 yr.0 (get_or cell i 0)) → left (n + r) im'' ≡ drawn s pen im (gathered (row_at corner cell) (i + 1))
-    cell_turn d = drawn_turn s pen im (row_at corner cell) i e (rw ey at d)
+  pub cell_turn : {r : ℕ} {im'' : List ℕ} → left r im'' ≡ drawn s pen im' (row_at corner cell i) → left (n + r) im'' ≡ drawn s pen im (gathered (row_at corner cell) (i + 1))
+  cell_turn d = drawn_turn s pen im (row_at corner cell) i e d
 
 -- ---- a cell right or left of the field
 aside_outside : (x : ℤ) (k : ℕ) → aside x ≡ true → k < 8 → below 512 (x +ℤ pos k) ≡ false
@@ -185,8 +159,8 @@ cell_aside s pen im corner cell w e t =
     (λ k l. past s (is_set (get_or cell r 0) k) (corner.x.0 +ℤ pos k) (corner.y.0 +ℤ pos (7 - r)) (rw w (aside_outside corner.x.0 k (sym e ∙ t) l)))))
 
 -- ---- a cell by the indices of its corner
-pub cell_inside : (s : Shape) (pen : Pen) (im : List ℕ) (corner : Pixel) (cell : List ℕ) (n : ℕ) {gx gy : Index} {x y r : ℕ} {im' : List ℕ}
-    → gx ≡ index_in n corner.x → gx ≡ At x → gy ≡ index_in n corner.y → gy ≡ At y → left r im' ≡ drawn s pen im (cell_pixels (pixel (pos x) (pos y)) cell)
+pub cell_inside : (s : Shape) (pen : Pen) (im : List ℕ) (corner : Pixel) (cell : List ℕ) (n : ℕ) {gx gy : Option ℕ} {x y r : ℕ} {im' : List ℕ}
+    → gx ≡ index_in n corner.x → gx ≡ Some x → gy ≡ index_in n corner.y → gy ≡ Some y → left r im' ≡ drawn s pen im (cell_pixels (pixel (pos x) (pos y)) cell)
     → left r im' ≡ drawn s pen im (cell_pixels corner cell)
 unfolding cell_pixels
 cell_inside s pen im corner cell n ex ax ey ay d = rw (index_is n corner.x (sym ex ∙ ax), index_is n corner.y (sym ey ∙ ay)) d

@@ -1,10 +1,9 @@
 -- What the drawing of a cell asks and draws: where its corner may be, the pixel of a bit, and the pixels of a row.
-use Rattle.std.specs.Prelude.{ℕ, ◌-◌, Bool, ◌||◌, List, [], ◌∷◌, ◌≡◌, length, get_or, ℤ, pos, negsuc, ◌+ℤ◌, ◌≤ℤ◌}
+use Rattle.std.specs.Prelude.{ℕ, ◌-◌, Bool, ◌||◌, List, [], ◌∷◌, get_or, ℤ, pos, negsuc, ◌+ℤ◌, ◌≤ℤ◌}
 use Rattle.std.specs.Int.Signed.{lt_z}
 use Rattle.definition.specs.Choice.{pick}
 use Rattle.definition.specs.Units.{pixel}
-use Rattle.definition.specs.BuiltIn.{built_in}
-use Rattle.definition.specs.Characters.{set_bytes, chosen, is_set, row_pixels}
+use Rattle.definition.specs.Characters.{is_set, row_pixels}
 use Rattle.definition.specs.declared.Pixels.{Pixels}
 use Rattle.definition.specs.declared.Pixel.{Pixel}
 
@@ -13,17 +12,9 @@ pub record Near (p : Pixels) : Type 0 where
   pub low : negsuc 2047 ≤ℤ p.0
   pub high : p.0 ≤ℤ pos 2055
 
--- of the set that is lent and the one that is built in, either the set that serves or none yet: the built-in one is laid out only where it is needed
-abbrev pub Serves : List ℕ → List ℕ → Type 0
-Serves lent built = (length (chosen lent built_in) ≡ set_bytes) × ((length (chosen lent built) ≡ 0 → ⊥) → chosen lent built ≡ chosen lent built_in)
-
 -- whether a cell from this column on has none in the field
 unfoldable pub aside : ℤ → Bool
 aside x = lt_z x (negsuc 6) || lt_z (pos 511) x
-
--- a set bit's pixel; a clear one has none
-unfoldable pub dot : Bool → Pixel → List Pixel
-dot on p = pick on (p ∷ []) []
 
 -- bit k of a row, and row r of a cell: the definition's, one by one
 abbrev pub bit_pixels : ℤ → ℤ → ℕ → ℕ → List Pixel

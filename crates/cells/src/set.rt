@@ -1,5 +1,8 @@
+// The bytes of a set of characters, eight for each code from 32 to 126.
+pub const SET: usize = 760;
+
 // The built-in set of characters, eight bytes for each code from 32 to 126: docs/CHARACTERS.md shows the cells.
-pub const BUILT_IN: [u8; 760] = [
+pub const BUILT_IN: [u8; SET] = [
     // 32 space
     0x00, 0x00, 0x00, 0x00, 0x00, 0x00, 0x00, 0x00,
     // 33 !

@@ -1,5 +1,5 @@
 -- The mark of a pixel: what it is at the start, and that a step of the code comes from it to the next one's.
-use Rattle.std.proofs.Common.{◌≡◌, ℕ, zero, suc, ◌+◌, ◌-◌, ◌*◌, ◌%◌, ◌^◌, ◌<◌, ◌≤◌, Bool, true, false, eqb, ltb, refl, ap, ◌∙◌, add-zero, mul-le-mul_right, arith, ltb-false, ltb-true, le-ltb, lt-ltb, eq-eqb, ne_eqb}
+use Rattle.std.proofs.Common.{◌≡◌, ℕ, zero, suc, ◌+◌, ◌-◌, ◌*◌, ◌%◌, ◌^◌, ◌<◌, ◌≤◌, Bool, true, false, ltb, refl, ap, ◌∙◌, add-zero, mul-le-mul_right, arith, ltb-false, ltb-true, le-ltb, lt-ltb}
 use lib.Arith.{digits_mod}
 use Rattle.definition.specs.Choice.{pick}
 use Rattle.course.specs.Course.{above, gone_at, carried_at, visible, part, number, mark, paces_of, stepped, marks, Straight, Sound, Spans}
@@ -9,39 +9,30 @@ use Rattle.course.proofs.GoneLaws.{goes_straight, goes_aslant, carried_less, car
 use Rattle.course.proofs.FieldLaws.{visible_is}
 
 -- ---- the number of a pixel, from one to the next
-module _ (x : Axis) (k : ℕ) {r : ℕ} where
-  pub part_up : r ≡ x.from + k - 2048 → x.down ≡ 0 → r * x.weight ≡ part x k
-  unfolding part
-  part_up e z = rw (eq-eqb x.down 0 z, e)
-
-  pub part_down : r ≡ 2559 - (x.from + k) → (x.down ≡ 0 → ⊥) → r * x.weight ≡ part x k
-  unfolding part
-  part_down e z = rw (ne_eqb x.down 0 z, e)
-
 module _ (x : Axis) (h : Straight x) (k : ℕ) (l : 2048 ≤ x.from + k) (u : x.from + k < 2560) where
   part_most : part x k ≤ 511 * x.weight
   unfolding part
-  part_most = go (eqb x.down 0)
+  part_most = go x.down
     where
-      go : (t : Bool) → pick t (x.from + k - 2048) (2559 - (x.from + k)) * x.weight ≤ 511 * x.weight
-      go true = let r : x.from + k - 2048 ≤ 511 = omega arith in mul-le-mul_right x.weight r
-      go false = let r : 2559 - (x.from + k) ≤ 511 = omega arith in mul-le-mul_right x.weight r
+      go : (t : Bool) → pick t (2559 - (x.from + k)) (x.from + k - 2048) * x.weight ≤ 511 * x.weight
+      go true = let r : 2559 - (x.from + k) ≤ 511 = omega arith in mul-le-mul_right x.weight r
+      go false = let r : x.from + k - 2048 ≤ 511 = omega arith in mul-le-mul_right x.weight r
 
   -- a step of an axis, beside all else that a mark has
   part_on : (z : ℕ) → z < 2 ^ 60 → x.from + k + 1 < 2560 → (part x k + z + x.stride) % 2 ^ 64 ≡ part x (k + 1) + z
   unfolding part
-  part_on z hz u' = rw h.stride (go (eqb x.down 0))
+  part_on z hz u' = rw h.stride (go x.down)
     where
-      go : (t : Bool) → (pick t (x.from + k - 2048) (2559 - (x.from + k)) * x.weight + z + pick t x.weight (2 ^ 64 - x.weight)) % 2 ^ 64 ≡ pick t (x.from + (k + 1) - 2048) (2559 - (x.from + (k + 1))) * x.weight + z
+      go : (t : Bool) → (pick t (2559 - (x.from + k)) (x.from + k - 2048) * x.weight + z + pick t (2 ^ 64 - x.weight) x.weight) % 2 ^ 64 ≡ pick t (2559 - (x.from + (k + 1))) (x.from + (k + 1) - 2048) * x.weight + z
       go true =
-          let e : x.from + (k + 1) - 2048 ≡ x.from + k - 2048 + 1 = omega arith in
-          let r : x.from + k - 2048 ≤ 511 = omega arith in
+          let e : 2559 - (x.from + k) ≡ 2559 - (x.from + (k + 1)) + 1 = omega arith in
+          let r : 2559 - (x.from + (k + 1)) ≤ 511 = omega arith in
           let m = mul-le-mul_right x.weight r in
           let w = h.weight in
           rw e (omega arith)
       go false =
-          let e : 2559 - (x.from + k) ≡ 2559 - (x.from + (k + 1)) + 1 = omega arith in
-          let r : 2559 - (x.from + (k + 1)) ≤ 511 = omega arith in
+          let e : x.from + (k + 1) - 2048 ≡ x.from + k - 2048 + 1 = omega arith in
+          let r : x.from + k - 2048 ≤ 511 = omega arith in
           let m = mul-le-mul_right x.weight r in
           let w = h.weight in
           rw e (omega arith)
@@ -56,6 +47,9 @@ number_most c i s v =
 -- ---- the mark
 mod_in : (x y : ℕ) → (x + y % 2 ^ 64) % 2 ^ 64 ≡ (x + y) % 2 ^ 64
 mod_in x y = omega arith
+
+mod_of : (x y : ℕ) → (x % 2 ^ 64 + y) % 2 ^ 64 ≡ (x + y) % 2 ^ 64
+mod_of x y = omega arith
 
 mod_then : (x y z : ℕ) → x % 2 ^ 64 ≡ y → (x + z) % 2 ^ 64 ≡ (y + z) % 2 ^ 64
 mod_then x y z e = omega arith
@@ -148,10 +142,8 @@ module _ (c : Course) {first end : ℕ} (s : Sound c) (p : 0 < c.long.size) (w :
       rw (e, marks_are i l') (step_on c (first + i) s p (w.seen (first + i) (omega arith) l') (w.seen (first + i + 1) (omega arith) (omega arith)))
 
 -- ---- the paces
-both_is : (b l t : ℕ) → b < 2 ^ 64 → l ≤ 2 ^ 64 → (b + l) % 2 ^ 64 ≡ t % 2 ^ 64 → b ≡ (t + (2 ^ 64 - l)) % 2 ^ 64
-both_is b l t hb hl e = omega arith
-
-module _ (c : Course) {wm wl one both sum : ℕ} (em : wm ≡ 2 * c.short.size) (el : wl ≡ 2 * c.long.size - 2 * c.short.size) (eo : one ≡ (wm * above + c.long.stride) % 2 ^ 64) (es : sum ≡ (c.long.stride + c.short.stride) % 2 ^ 64) (eb : (both + wl * above) % 2 ^ 64 ≡ sum) where
-  pub paces_are : both < 2 ^ 64 → wl * above ≤ 2 ^ 64 → record { limit = wl * above; one = one; both = both } ≡ paces_of c
+module _ (c : Course) {wm wl : ℕ} (em : wm ≡ 2 * c.short.size) (el : wl ≡ 2 * c.long.size - 2 * c.short.size) where
+  pub paces_are : wl * above ≤ 2 ^ 64
+      → record { limit = wl * above; one = (wm * above + c.long.stride) % 2 ^ 64; both = ((c.long.stride + c.short.stride) % 2 ^ 64 + (2 ^ 64 - wl * above)) % 2 ^ 64 } ≡ paces_of c
   unfolding paces_of
-  paces_are hb hl = let k = both_is both (wl * above) (c.long.stride + c.short.stride) hb hl (eb ∙ es) in rw (k, eo, em, el)
+  paces_are hl = rw (mod_of (c.long.stride + c.short.stride) (2 ^ 64 - wl * above), el, em)

@@ -3,12 +3,13 @@ use Prim.Native.Nat.{ℕ}
 use mathlib.Core.Bool.{Bool, true, false, ◌&&◌}
 use mathlib.Core.List.{List, [], ◌∷◌}
 use mathlib.Core.Path.{◌≡◌, refl}
+use Rattle.std.specs.Prelude.{Result}
 use Rattle.definition.specs.Choice.{pick, among, Test, first_of}
 use Rattle.definition.specs.Machine.{fresh, with_latch, refusal_numbers, statuses}
 use Rattle.definition.specs.Step.{ordered, Given, first, second, instruction, refusals, refusal}
 use Rattle.definition.specs.Calls.{Lent, door_numbers, run_doors, run_door}
 use Rattle.definition.specs.declared.Machine.{Machine}
-use Rattle.definition.specs.declared.Fetched.{Fetched}
+use Rattle.definition.specs.declared.Unfetched.{Unfetched}
 use Rattle.definition.specs.declared.Order.TheVariants.{StatusA}
 use Rattle.definition.specs.declared.Instruction.{Instruction}
 use Rattle.definition.proofs.Opened.{rules}
@@ -35,7 +36,7 @@ pub refusal_is : (g : Given) (m : Machine) → among (refusal g m) (0 ∷ refusa
 unfolding rules
 refusal_is g m = first_is (λ n. among n (0 ∷ refusal_numbers)) (refusals m (first g m) (instruction g m) (second g m)) refl refl
 
-pub refusals_all : (m : Machine) (got : Fetched) (i : Instruction) (more : Fetched) → all_of (λ n. names n (refusals m got i more)) refusal_numbers ≡ true
+pub refusals_all : (m : Machine) (got : Result ℕ Unfetched) (i : Instruction) (more : Result ℕ Unfetched) → all_of (λ n. names n (refusals m got i more)) refusal_numbers ≡ true
 unfolding rules
 refusals_all m got i more = refl
 

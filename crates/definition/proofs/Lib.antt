@@ -8,6 +8,7 @@ pub mod Exactly
 pub mod Plain
 pub mod Tables
 pub mod Answers
+pub mod Refusals
 pub mod VectorLaws
 pub mod Digits
 pub mod StoreLaws

@@ -1,6 +1,7 @@
 -- The calls: the doors of each in their order, and what each answers and leaves.
-use Rattle.std.specs.Prelude.{ℕ, not, ◌||◌, List, [], ◌∷◌, ◌++◌, length, eqb, ltb, nat_abs}
+use Rattle.std.specs.Prelude.{ℕ, not, ◌||◌, List, [], ◌∷◌, ◌++◌, length, eqb, ltb, nat_abs, Result, Ok, Err}
 use Rattle.definition.specs.Choice.{pick, Test, ◌when◌, first_of, joined}
+use Rattle.definition.specs.Refusal.{refusal_number}
 use Rattle.definition.specs.Image.{Shape, image_bytes, blank, in_field, digit_at, Left, left}
 use Rattle.definition.specs.File.{file_doors, fetch}
 use Rattle.definition.specs.BuiltIn.{built_in}
@@ -11,8 +12,7 @@ use Rattle.definition.specs.Run.{nothing, State, begun, run}
 use Rattle.definition.specs.declared.Pixel.{Pixel}
 use Rattle.definition.specs.declared.Machine.{Machine}
 use Rattle.definition.specs.declared.Ran.{Ran}
-use Rattle.definition.specs.declared.Started.{Started}
-use Rattle.definition.specs.declared.Read.{Read}
+use Rattle.definition.specs.declared.Refusal.{Refusal}
 
 unfoldable pub image_doors : List ℕ → List Test
 image_doors im = 11 when not (eqb (length im) image_bytes) ∷ []
@@ -42,6 +42,25 @@ plain f = lending f []
 
 abbrev pub given : Lent → Given
 given l = record { memory = fetch l.file; set = chosen l.set built_in }
+
+-- what a start answers: its number, and the machine that it leaves
+pub record Started : Type 0 where
+  pub answer : ℕ
+  pub machine : Machine
+
+-- what is read of a pixel: a number, and the digit
+pub record Read : Type 0 where
+  pub answer : ℕ
+  pub digit : ℕ
+
+-- the same, from the result of a call: a refused start leaves the machine as it was, and a refused reading reads 0
+abbrev pub started_of : Machine → Result Machine Refusal → Started
+started_of m (Ok n) = record { answer = 0; machine = n }
+started_of m (Err why) = record { answer = refusal_number why; machine = m }
+
+abbrev pub read_of : Result ℕ Refusal → Read
+read_of (Ok digit) = record { answer = 0; digit = digit }
+read_of (Err why) = record { answer = refusal_number why; digit = 0 }
 
 unfoldable pub check_call : List ℕ → ℕ
 check_call f = first_of (file_doors f)

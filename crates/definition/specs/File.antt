@@ -1,10 +1,8 @@
 -- The display file: its header and the check of it, and the fetch of a word at an address.
-use Rattle.std.specs.Prelude.{ℕ, zero, suc, ◌+◌, ◌*◌, ◌/◌, ◌%◌, Bool, true, not, ◌&&◌, ◌||◌, List, [], ◌∷◌, ◌++◌, length, get_or, ltb, leb, eqb}
+use Rattle.std.specs.Prelude.{ℕ, zero, suc, ◌+◌, ◌*◌, ◌/◌, ◌%◌, Bool, true, not, ◌&&◌, ◌||◌, List, [], ◌∷◌, ◌++◌, length, get_or, ltb, leb, eqb, Result, Ok, Err}
 use Rattle.definition.specs.Choice.{pick, Test, ◌when◌}
 use Rattle.definition.specs.declared.Unfetched.{Unfetched}
 use Rattle.definition.specs.declared.Unfetched.TheVariants.{Odd, NoSegment, NoPlace}
-use Rattle.definition.specs.declared.Fetched.{Fetched}
-use Rattle.definition.specs.declared.Fetched.TheVariants.{Word, Refused}
 
 -- the header: the tag, the number of segments, and a pair for each, where it starts and how long it is
 abbrev pub tag : List ℕ → ℕ
@@ -55,14 +53,14 @@ place_of a = a / 2 % 4096
 
 -- what a step reads of a file: the word at each address, or why there is none
 abbrev pub Memory : Type 0
-Memory = ℕ → Fetched
+Memory = ℕ → Result ℕ Unfetched
 
 unfoldable pub fetch : List ℕ → Memory
 fetch f a =
-    pick (not (eqb (a % 2) 0)) (Refused Odd)
-    (pick (leb (segments f) (segment_of a)) (Refused NoSegment)
-    (pick (leb (size f (segment_of a)) (place_of a)) (Refused NoPlace)
-    (Word (get_or f (offset f (segment_of a) + place_of a) 0))))
+    pick (not (eqb (a % 2) 0)) (Err Odd)
+    (pick (leb (segments f) (segment_of a)) (Err NoSegment)
+    (pick (leb (size f (segment_of a)) (place_of a)) (Err NoPlace)
+    (Ok (get_or f (offset f (segment_of a) + place_of a) 0))))
 
 abbrev pub number_of : Unfetched → ℕ
 number_of Odd = 21
@@ -70,15 +68,15 @@ number_of NoSegment = 22
 number_of NoPlace = 23
 
 -- what a fetch answered, taken apart: its word, and its number, 0 where it is a word
-abbrev pub word_in : Fetched → ℕ
-word_in (Word w) = w
-word_in (Refused why) = 0
+abbrev pub word_in : Result ℕ Unfetched → ℕ
+word_in (Ok w) = w
+word_in (Err why) = 0
 
-abbrev pub number_in : Fetched → ℕ
-number_in (Word w) = 0
-number_in (Refused why) = number_of why
+abbrev pub number_in : Result ℕ Unfetched → ℕ
+number_in (Ok w) = 0
+number_in (Err why) = number_of why
 
-unfoldable pub fetch_refusals : Fetched → List Test
+unfoldable pub fetch_refusals : Result ℕ Unfetched → List Test
 fetch_refusals got =
     21 when eqb (number_in got) 21
     ∷ 22 when eqb (number_in got) 22

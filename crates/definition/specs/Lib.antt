@@ -1,4 +1,5 @@
 pub mod Choice
+pub mod Refusal
 pub mod Units
 pub mod Image
 pub mod File

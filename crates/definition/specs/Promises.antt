@@ -2,12 +2,10 @@
 use Rattle.std.specs.Prelude.{ℕ, List, ◌≡◌}
 use Rattle.definition.specs.Image.{square, left}
 use Rattle.definition.specs.Machine.{fresh}
-use Rattle.definition.specs.Calls.{Lent, check_call, start_call, run_call, step_call, clear_call, read_call}
+use Rattle.definition.specs.Calls.{Lent, Started, Read, check_call, start_call, run_call, step_call, clear_call, read_call}
 use Rattle.definition.specs.declared.Pixel.{Pixel}
 use Rattle.definition.specs.declared.Machine.{Machine}
 use Rattle.definition.specs.declared.Ran.{Ran}
-use Rattle.definition.specs.declared.Started.{Started}
-use Rattle.definition.specs.declared.Read.{Read}
 
 abbrev pub PromiseCheck : List ℕ → ℕ → Type 0
 PromiseCheck f answer = answer ≡ check_call f

@@ -1,5 +1,5 @@
 -- A step: what an instruction is refused for, and what it does where it is not refused.
-use Rattle.std.specs.Prelude.{ℕ, ◌*◌, Bool, false, not, ◌&&◌, ◌||◌, List, [], ◌∷◌, ◌++◌, eqb, pos}
+use Rattle.std.specs.Prelude.{ℕ, Result, ◌*◌, Bool, false, not, ◌&&◌, ◌||◌, List, [], ◌∷◌, ◌++◌, eqb, pos}
 use Rattle.definition.specs.Choice.{pick, Test, ◌when◌, first_of, joined, only_if}
 use Rattle.definition.specs.Units.{units, moved}
 use Rattle.definition.specs.Image.{pixel_at, inside}
@@ -11,7 +11,7 @@ use Rattle.definition.specs.Machine.{next, past, with_counter, with_position, wi
 use Rattle.definition.specs.declared.Units.{Units}
 use Rattle.definition.specs.declared.Pixel.{Pixel}
 use Rattle.definition.specs.declared.Machine.{Machine}
-use Rattle.definition.specs.declared.Fetched.{Fetched}
+use Rattle.definition.specs.declared.Unfetched.{Unfetched}
 use Rattle.definition.specs.declared.Order.{Order}
 use Rattle.definition.specs.declared.Order.TheVariants.{SetMode, Jump, NoOp, StatusA, Increment, StatusC}
 use Rattle.definition.specs.declared.Item.{Item}
@@ -119,10 +119,10 @@ done m (Draws lit it) v =
 
 -- ---- the step
 -- what stands at the counter, and after it
-abbrev pub first : Given → Machine → Fetched
+abbrev pub first : Given → Machine → Result ℕ Unfetched
 first g m = g.memory m.counter
 
-abbrev pub second : Given → Machine → Fetched
+abbrev pub second : Given → Machine → Result ℕ Unfetched
 second g m = g.memory (next m.counter)
 
 abbrev pub instruction : Given → Machine → Instruction
@@ -132,7 +132,7 @@ unfoldable pub way_refusals : Machine → Way → List Test
 way_refusals m w = 27 when (leaves m.x w.x || leaves m.y w.y) ∷ []
 
 -- in their order: first fetch, first word, second fetch, second word, move
-unfoldable pub refusals : Machine → Fetched → Instruction → Fetched → List Test
+unfoldable pub refusals : Machine → Result ℕ Unfetched → Instruction → Result ℕ Unfetched → List Test
 refusals m got i more =
     joined
     (fetch_refusals got

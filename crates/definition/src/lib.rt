@@ -1,6 +1,13 @@
 // The nouns of document 01. Its rules are the definitions of specs/.
 #![tactic(auto)]
 
+ghost use Rattle.std.specs.Prelude.{◌≡◌, ◌+◌, ◌^◌, ◌<◌};
+ghost use Rattle.definition.specs.File.{number_of};
+ghost use Rattle.definition.specs.Refusal.{refusal_number};
+ghost use Rattle.definition.specs.Run.{summed};
+
+use std::ops::Add;
+
 // A count of display units and a count of pixels: two kinds, and neither passes for the other.
 #[derive(Clone, Copy)]
 pub struct Units(pub i32);
@@ -36,21 +43,79 @@ pub struct Ink {
     pub value: u8,
 }
 
+// Why a call or an instruction is refused. Each discriminant is the number that a call answers, or that a step sets as the status.
+#[derive(Clone, Copy, PartialEq, Eq, Debug)]
+pub enum Refusal {
+    // The image has another number of bytes than 65,536.
+    BadImage = 11,
+    // The file is shorter than two words, or than its header.
+    ShortFile = 12,
+    // Word 0 is not 1.
+    BadTag = 13,
+    // The number of segments is not 1 to 8.
+    BadCount = 14,
+    // A segment starts in the header, has more than 4,096 words, or ends past the file.
+    BadSegment = 15,
+    // A field of the machine is out of its range.
+    BadMachine = 16,
+    // The budget is above 1,000,000 steps.
+    BadBudget = 17,
+    // The lent set has neither 0 bytes nor 760.
+    BadSet = 18,
+    // The bytes that were given are no words: their number is odd, or there are more than 65,536.
+    BadInput = 19,
+    // A fetch at an odd address.
+    OddAddress = 21,
+    // A fetch from a segment that is not in the file.
+    NoSegment = 22,
+    // A fetch past the end of a segment.
+    NoPlace = 23,
+    // A code that this processor does not know.
+    NotBuilt = 24,
+    // A data word before any mode was set.
+    NoModeSet = 25,
+    // Bit 15 is set in the second word of a long vector or an absolute point.
+    SecondWord = 26,
+    // X or Y would leave -4,096 to 4,095.
+    OutOfRange = 27,
+    // The machine's status is not 0.
+    NotRunning = 28,
+    // The pixel is outside the picture.
+    Outside = 31,
+    // A character's code is not 32 to 126.
+    BadCharacter = 32,
+}
+
+impl From<Refusal> for u8 {
+    ghost from_gives = { λ why number. number ≡ refusal_number why };
+
+    fn from(why: Refusal) -> u8 {
+        why as u8
+    }
+}
+
 // Why an address gives no word.
-#[derive(Clone, Copy)]
+#[derive(Clone, Copy, PartialEq, Eq, Debug)]
 pub enum Unfetched {
     Odd,
     NoSegment,
     NoPlace,
 }
 
-#[derive(Clone, Copy)]
-pub enum Fetched {
-    Word(u16),
-    Refused(Unfetched),
+impl From<Unfetched> for Refusal {
+    ghost from_gives = { λ why refusal. refusal_number refusal ≡ number_of why };
+
+    fn from(why: Unfetched) -> Refusal {
+        match why {
+            Unfetched::Odd => Refusal::OddAddress,
+            Unfetched::NoSegment => Refusal::NoSegment,
+            Unfetched::NoPlace => Refusal::NoPlace,
+        }
+    }
 }
 
-// The bits of a word with bit 15 set, as they stand there: which is set, and to what.
+// The bits of a word with bit 15 set, as they stand there: which is set, and to what. A flag beside a value and no Option: the definition has the value where
+// the flag is off too, and `words::decode` promises it.
 #[derive(Clone, Copy)]
 pub struct ModeBits {
     pub mode: u8,
@@ -114,22 +179,34 @@ pub struct Counts {
     pub stores: u32,
 }
 
-// What the calls answer, beside the image.
+impl Counts {
+    pub const NOTHING: Counts = Counts {
+        steps: 0,
+        words: 0,
+        stores: 0,
+    };
+}
+
+impl Add for Counts {
+    type Output = Counts;
+
+    ghost can_add = { λ a b. (a.steps + b.steps < 2 ^ 32) × (a.words + b.words < 2 ^ 32) × (a.stores + b.stores < 2 ^ 32) };
+
+    ghost add_gives = { λ a b sum. sum ≡ summed a b };
+
+    fn add(self, more: Counts) -> Counts {
+        Counts {
+            steps: self.steps + more.steps,
+            words: self.words + more.words,
+            stores: self.stores + more.stores,
+        }
+    }
+}
+
+// What a run answers, beside the image. The answer is the number of a refusal or the last status, as a machine has it, and so no Result.
 #[derive(Clone, Copy)]
 pub struct Ran {
     pub answer: u8,
     pub counts: Counts,
     pub machine: Machine,
-}
-
-#[derive(Clone, Copy)]
-pub struct Started {
-    pub answer: u8,
-    pub machine: Machine,
-}
-
-#[derive(Clone, Copy)]
-pub struct Read {
-    pub answer: u8,
-    pub digit: u8,
 }

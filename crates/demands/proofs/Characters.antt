@@ -20,14 +20,13 @@ use Rattle.definition.specs.Characters.{set_bytes, cell_of, is_set, gathered, ro
 use Rattle.definition.specs.Machine.{with_counter, with_position, shape_of, pen_of}
 use Rattle.definition.specs.Step.{way_of, changed, done, Given, first, refusal, Step, step}
 use Rattle.definition.specs.Run.{State, begun, run}
-use Rattle.definition.specs.Calls.{Lent, given, step_call, read_call}
+use Rattle.definition.specs.Calls.{Lent, Read, given, step_call, read_call}
 use Rattle.definition.specs.declared.Pixel.{Pixel}
 use Rattle.definition.specs.declared.Machine.{Machine}
 use Rattle.definition.specs.declared.Instruction.{Instruction}
 use Rattle.definition.specs.declared.Item.TheVariants.{Characters}
 use Rattle.definition.specs.declared.Instruction.TheVariants.{Draws}
 use Rattle.definition.specs.declared.Ran.{Ran}
-use Rattle.definition.specs.declared.Read.{Read}
 use Rattle.definition.proofs.Exactly.{apart}
 use Rattle.definition.proofs.Plain.{◌so◌, ◌and◌, ◌or◌, itself, is_equal}
 use Rattle.definition.proofs.StepLaws.{step_done}

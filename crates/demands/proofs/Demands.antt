@@ -8,6 +8,7 @@ use mathlib.Core.Logic.{◌⊎◌, ◌↔◌}
 use lib.ListN.{length, get_or}
 use lib.IntN.{ℤ, pos, nat_abs, ◌+ℤ◌, ◌-ℤ◌, ◌*ℤ◌}
 use lib.Signed.{◌≤ℤ◌, ◌<ℤ◌}
+use Rattle.std.specs.Prelude.{Ok}
 use Rattle.definition.specs.Units.{units, pixels_of}
 use Rattle.definition.specs.Image.{Shape, square, image_bytes, blank, pixel_at, inside, stores, digit_at, Left, left}
 use Rattle.definition.specs.File.{tag, segments, offset, size, header, segment_of, place_of, fetch, number_in}
@@ -16,16 +17,13 @@ use Rattle.definition.specs.Vector.{longer, vector}
 use Rattle.definition.specs.Machine.{refusal_numbers, statuses, fresh, started_at, with_status, shape_of, pen_of}
 use Rattle.definition.specs.Step.{Given, first, second, refusal, step}
 use Rattle.definition.specs.Run.{State, begun, after, run}
-use Rattle.definition.specs.Calls.{Lent, plain, given, check_call, start_call, door_numbers, run_door, turned_away, run_call, step_call, clear_call, read_call}
+use Rattle.definition.specs.Calls.{Lent, Started, Read, plain, given, check_call, start_call, door_numbers, run_door, turned_away, run_call, step_call, clear_call, read_call}
 use Rattle.definition.specs.Plot.{words_in, plot_budget, ran_line, refused_line, plot_line}
 use Rattle.definition.specs.Promises.{PromiseCheck, PromiseFresh, PromiseStart, PromiseRun, PromiseStep, PromiseClear, PromiseRead}
 use Rattle.definition.specs.declared.Units.{Units}
 use Rattle.definition.specs.declared.Pixel.{Pixel}
 use Rattle.definition.specs.declared.Machine.{Machine}
-use Rattle.definition.specs.declared.Fetched.TheVariants.{Word}
 use Rattle.definition.specs.declared.Ran.{Ran}
-use Rattle.definition.specs.declared.Started.{Started}
-use Rattle.definition.specs.declared.Read.{Read}
 use Rattle.demands.specs.Conditions.{Among, Head, Keeps, Accepted, SameHeader, SameWords, Fits, Lendable, Open, During, InField, On, Off, HasCell, NotBuilt, NoMode, BadCode, Pair, word, more, Begins, FetchRefused, MovesOut, Beyond, Stops, LatchIs}
 use Rattle.demands.specs.Ledger.{completed, changes, settled}
 use Rattle.demands.specs.Graphs.{AlongX, AlongY, weeks, of_lit, shown, Ready, plotted}
@@ -133,7 +131,7 @@ module _ (f : List ℕ) (a : ℕ) where
   pub fetch_23 : (number_in (fetch f a) ≡ 23) ↔ ((a % 2 ≡ 0) × ((segment_of a < segments f) × (size f (segment_of a) ≤ place_of a)))
   fetch_23 = file.fetch_23 f a
 
-  pub fetch_word : (fetch f a ≡ Word (get_or f (offset f (segment_of a) + place_of a) 0)) ↔ ((a % 2 ≡ 0) × ((segment_of a < segments f) × (place_of a < size f (segment_of a))))
+  pub fetch_word : (fetch f a ≡ Ok (get_or f (offset f (segment_of a) + place_of a) 0)) ↔ ((a % 2 ≡ 0) × ((segment_of a < segments f) × (place_of a < size f (segment_of a))))
   fetch_word = file.fetch_word f a
 
 -- a run

@@ -11,8 +11,8 @@ use lib.ListN.{length, get_or}
 use Rattle.definition.specs.Choice.{pick, Test, ◌when◌, first_of}
 use Rattle.definition.specs.File.{tag, segments, offset, size, header, keeps, keep_below, head_doors, segment_doors, file_doors, segment_of, place_of, fetch, number_in}
 use Rattle.definition.specs.Calls.{check_call}
+use Rattle.std.specs.Prelude.{Ok, Err}
 use Rattle.definition.specs.declared.Unfetched.TheVariants.{Odd, NoSegment, NoPlace}
-use Rattle.definition.specs.declared.Fetched.TheVariants.{Word, Refused}
 use Rattle.definition.proofs.Exactly.{apart, Answers, exactly, none_holds}
 use Rattle.definition.proofs.Plain.{◌so◌, ◌and◌, ◌or◌, itself, is_less, not_less, is_most, not_most, is_equal, not_equal, not_true, not_false, both_true, either_true, either_false, failing}
 use Rattle.demands.specs.Conditions.{Head, Keeps, Accepted}
@@ -109,7 +109,7 @@ module _ (f : List ℕ) (a : ℕ) where
   unfolding fetch first_of
   as_tests = go (not (eqb (a % 2) 0)) (leb (segments f) (segment_of a)) (leb (size f (segment_of a)) (place_of a))
     where
-      go : (t u v : Bool) → number_in (pick t (Refused Odd) (pick u (Refused NoSegment) (pick v (Refused NoPlace) (Word (get_or f (offset f (segment_of a) + place_of a) 0)))))
+      go : (t u v : Bool) → number_in (pick t (Err Odd) (pick u (Err NoSegment) (pick v (Err NoPlace) (Ok (get_or f (offset f (segment_of a) + place_of a) 0)))))
           ≡ pick t 21 (pick u 22 (pick v 23 0))
       go true u v = refl
       go false true v = refl
@@ -129,12 +129,12 @@ module _ (f : List ℕ) (a : ℕ) where
   fetch_23 = fetch_exactly 23 (omega arith) so (not_false so is_equal) and not_most and is_most
 
   -- a word is fetched in every other case, and it is the one that lies at that place of that segment
-  pub fetch_word : (fetch f a ≡ Word (get_or f (offset f (segment_of a) + place_of a) 0)) ↔ ((a % 2 ≡ 0) × ((segment_of a < segments f) × (place_of a < size f (segment_of a))))
+  pub fetch_word : (fetch f a ≡ Ok (get_or f (offset f (segment_of a) + place_of a) 0)) ↔ ((a % 2 ≡ 0) × ((segment_of a < segments f) × (place_of a < size f (segment_of a))))
   unfolding fetch
   fetch_word = (λ e. passes.0 (sym as_tests ∙ ap number_in e), λ w. found (passes.1 w))
     where
       passes : (first_of tests ≡ 0) ↔ ((a % 2 ≡ 0) × ((segment_of a < segments f) × (place_of a < size f (segment_of a))))
       passes = none_holds tests refl so (not_false so is_equal) and not_most and not_most and itself so (λ w. (w.0, (w.1.0, w.1.1.0)), λ w. (w.0, (w.1.0, (w.1.1, tt))))
 
-      found : first_of tests ≡ 0 → fetch f a ≡ Word (get_or f (offset f (segment_of a) + place_of a) 0)
+      found : first_of tests ≡ 0 → fetch f a ≡ Ok (get_or f (offset f (segment_of a) + place_of a) 0)
       found z = let n = (none_holds tests refl).0 z in rw (n.0, n.1.0, n.1.1.0)

@@ -21,7 +21,7 @@ use Rattle.definition.specs.Run.{State, after, run}
 use Rattle.definition.specs.declared.Units.{Units}
 use Rattle.definition.specs.declared.Pixel.{Pixel}
 use Rattle.definition.specs.declared.Machine.{Machine}
-use Rattle.definition.specs.declared.Fetched.TheVariants.{Word}
+use Rattle.std.specs.Prelude.{Ok}
 use Rattle.definition.specs.declared.Item.{Item}
 use Rattle.definition.specs.declared.Item.TheVariants.{GraphX, GraphY}
 use Rattle.definition.specs.declared.Instruction.TheVariants.{Draws}
@@ -64,7 +64,7 @@ mark_shown h true on ps = refl
 mark_shown h false true ps = refl
 mark_shown h false false ps = refl
 
-module _ (g : Given) (s : State) (w : ℕ) (here : g.memory s.machine.counter ≡ Word w) (data_word : Off 15 w) where
+module _ (g : Given) (s : State) (w : ℕ) (here : g.memory s.machine.counter ≡ Ok w) (data_word : Off 15 w) where
   abbrev m : Machine
   m = s.machine
 

@@ -13,12 +13,10 @@ use Rattle.definition.specs.Choice.{first_of}
 use Rattle.definition.specs.Image.{Shape, Left, image_bytes, blank, in_field, digit_at, left}
 use Rattle.definition.specs.Machine.{fresh, started_at, in_range, is_mode, is_status, ranged, machine_doors}
 use Rattle.definition.specs.File.{head_doors, segment_doors, file_doors}
-use Rattle.definition.specs.Calls.{image_doors, budget_doors, set_doors, running_doors, field_doors, check_call, start_call, clear_call, read_call, plain, run_doors, run_call}
+use Rattle.definition.specs.Calls.{Started, Read, image_doors, budget_doors, set_doors, running_doors, field_doors, check_call, start_call, clear_call, read_call, plain, run_doors, run_call}
 use Rattle.definition.specs.Plot.{words_in, input_doors, plot_budget, ran_line, refused_line, plot_line}
 use Rattle.definition.specs.declared.Pixel.{Pixel}
 use Rattle.definition.specs.declared.Machine.{Machine}
-use Rattle.definition.specs.declared.Started.{Started}
-use Rattle.definition.specs.declared.Read.{Read}
 use Rattle.definition.proofs.Exactly.{exactly, none_holds}
 use Rattle.definition.proofs.Plain.{◌so◌, ◌and◌, ◌or◌, itself, is_less, is_equal, not_equal, not_true, not_false, either_true, failing, never}
 use Rattle.demands.specs.Conditions.{Fits, InField}

@@ -14,9 +14,9 @@ use Rattle.definition.specs.Image.{blank}
 use Rattle.definition.specs.Machine.{fresh}
 use Rattle.definition.specs.Calls.{Lent, plain, check_call, run_doors, run_door, run_call}
 use Rattle.definition.specs.Plot.{words_in, input_doors, plot_budget, plot_line}
+use Rattle.std.specs.Prelude.{Result, Ok, Err}
+use Rattle.definition.specs.declared.Unfetched.{Unfetched}
 use Rattle.definition.specs.declared.Unfetched.TheVariants.{Odd, NoSegment, NoPlace}
-use Rattle.definition.specs.declared.Fetched.{Fetched}
-use Rattle.definition.specs.declared.Fetched.TheVariants.{Word, Refused}
 use Rattle.definition.specs.declared.Machine.{Machine}
 use Rattle.definition.proofs.Exactly.{none_holds}
 use Rattle.demands.specs.With.{with_file}
@@ -54,11 +54,11 @@ module _ (f g : List ℕ) (h : SameHeader f g) where
 module _ (f g : List ℕ) (h : SameWords f g) where
   same_fetch : (a : ℕ) → fetch f a ≡ fetch g a
   unfolding fetch
-  same_fetch a = ap (λ (t : Fetched). pick (not (eqb (a % 2) 0)) (Refused Odd) t) (in_segment (dec_le (segments f) (segment_of a)) (dec_le (size f (segment_of a)) (place_of a)))
+  same_fetch a = ap (λ (t : Result ℕ Unfetched). pick (not (eqb (a % 2) 0)) (Err Odd) t) (in_segment (dec_le (segments f) (segment_of a)) (dec_le (size f (segment_of a)) (place_of a)))
     where
       in_segment : Dec (segments f ≤ (segment_of a)) → Dec (size f (segment_of a) ≤ place_of a)
-          → pick (leb (segments f) (segment_of a)) (Refused NoSegment) (pick (leb (size f (segment_of a)) (place_of a)) (Refused NoPlace) (Word (get_or f (offset f (segment_of a) + place_of a) 0)))
-          ≡ pick (leb (segments g) (segment_of a)) (Refused NoSegment) (pick (leb (size g (segment_of a)) (place_of a)) (Refused NoPlace) (Word (get_or g (offset g (segment_of a) + place_of a) 0)))
+          → pick (leb (segments f) (segment_of a)) (Err NoSegment) (pick (leb (size f (segment_of a)) (place_of a)) (Err NoPlace) (Ok (get_or f (offset f (segment_of a) + place_of a) 0)))
+          ≡ pick (leb (segments g) (segment_of a)) (Err NoSegment) (pick (leb (size g (segment_of a)) (place_of a)) (Err NoPlace) (Ok (get_or g (offset g (segment_of a) + place_of a) 0)))
       in_segment (yes p) d = rw (← same_segments f g h.headers, le-leb _ _ p)
       in_segment (no p) (yes q) = rw (← same_segments f g h.headers, ← same_size f g h.headers (segment_of a) (omega arith), le-leb _ _ q)
       in_segment (no p) (no q) =

@@ -16,9 +16,9 @@ use Rattle.definition.specs.Step.{Change, changed, leaves, ordered, done, Given,
 use Rattle.definition.specs.Step.Change.{Stay, Set, Move}
 use Rattle.definition.specs.declared.Units.{Units}
 use Rattle.definition.specs.declared.Machine.{Machine}
+use Rattle.std.specs.Prelude.{Result, Ok, Err}
+use Rattle.definition.specs.declared.Unfetched.{Unfetched}
 use Rattle.definition.specs.declared.Unfetched.TheVariants.{Odd, NoSegment, NoPlace}
-use Rattle.definition.specs.declared.Fetched.{Fetched}
-use Rattle.definition.specs.declared.Fetched.TheVariants.{Word, Refused}
 use Rattle.definition.specs.declared.Instruction.{Instruction}
 use Rattle.definition.specs.declared.Order.{Order}
 use Rattle.definition.specs.declared.Order.TheVariants.{SetMode, Jump, NoOp, StatusA, Increment, StatusC}
@@ -34,14 +34,14 @@ wrong : {A : Type 0} → ◌≡◌ {A = Bool} true false → A
 wrong e = absurd (apart e)
 
 -- ---- a group of tests: a fetch's, and one that is asked only where t holds
-by_fetch : (got : Fetched) → first_of (fetch_refusals got) ≡ number_in got
+by_fetch : (got : Result ℕ Unfetched) → first_of (fetch_refusals got) ≡ number_in got
 unfolding first_of fetch_refusals
-by_fetch (Word w) = refl
-by_fetch (Refused Odd) = refl
-by_fetch (Refused NoSegment) = refl
-by_fetch (Refused NoPlace) = refl
+by_fetch (Ok w) = refl
+by_fetch (Err Odd) = refl
+by_fetch (Err NoSegment) = refl
+by_fetch (Err NoPlace) = refl
 
-fetch_is : (got : Fetched) {n : ℕ} → (first_of (fetch_refusals got) ≡ n) ↔ (number_in got ≡ n)
+fetch_is : (got : Result ℕ Unfetched) {n : ℕ} → (first_of (fetch_refusals got) ≡ n) ↔ (number_in got ≡ n)
 fetch_is got = (λ q. sym (by_fetch got) ∙ q, λ q. by_fetch got ∙ q)
 
 passes_if : (t : Bool) (ts : List Test) → (first_of (only_if t ts) ≡ 0) ↔ (t ≡ true → first_of ts ≡ 0)

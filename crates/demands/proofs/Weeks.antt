@@ -16,11 +16,10 @@ use Rattle.definition.specs.Words.{bit, coordinate}
 use Rattle.definition.specs.Machine.{pen_of}
 use Rattle.definition.specs.Step.{Given}
 use Rattle.definition.specs.Run.{State, begun, run}
-use Rattle.definition.specs.Calls.{Lent, given, answered, run_call, read_call}
+use Rattle.definition.specs.Calls.{Lent, Read, given, answered, run_call, read_call}
 use Rattle.definition.specs.declared.Pixel.{Pixel}
 use Rattle.definition.specs.declared.Machine.{Machine}
 use Rattle.definition.specs.declared.Ran.{Ran}
-use Rattle.definition.specs.declared.Read.{Read}
 use Rattle.demands.specs.Conditions.{Among, Fits, Open, InField, On}
 use Rattle.demands.specs.Graphs.{Axis, stepped, pixel_on, weeks, of_lit, week_at, shown, Ready, plotted}
 use Rattle.demands.specs.Strokes.{seen}

@@ -1,5 +1,5 @@
 -- Graph words, one after the other: where each should stand, and the position after them.
-use Rattle.std.specs.Prelude.{ℕ, suc, ◌*◌, List, [], ◌∷◌, ◌≡◌, length, get_or, ℤ, pos, negsuc, ◌+ℤ◌, ◌≤ℤ◌}
+use Rattle.std.specs.Prelude.{ℕ, suc, ◌*◌, List, [], ◌∷◌, ◌≡◌, length, get_or, ℤ, pos, negsuc, ◌+ℤ◌, ◌≤ℤ◌, Ok}
 use Rattle.definition.specs.Choice.{pick}
 use Rattle.definition.specs.Units.{units}
 use Rattle.definition.specs.Image.{Shape, pixel_at, inside, stores}
@@ -11,7 +11,6 @@ use Rattle.definition.specs.Run.{summed, State}
 use Rattle.definition.specs.declared.Units.{Units}
 use Rattle.definition.specs.declared.Pixel.{Pixel}
 use Rattle.definition.specs.declared.Machine.{Machine}
-use Rattle.definition.specs.declared.Fetched.TheVariants.{Word}
 use Rattle.demands.specs.Conditions.{On, Off}
 use Rattle.demands.specs.With.{with_machine, with_image, with_counts}
 
@@ -44,7 +43,7 @@ pixel_on AlongY h u v = pixel_at h v u
 -- the words stand in the memory one after the other, from an address on
 abbrev pub Lies : Memory → ℕ → List ℕ → Type 0
 Lies f a [] = Unit {0}
-Lies f a (w ∷ ws) = (f a ≡ Word w) × Lies f (next a) ws
+Lies f a (w ∷ ws) = (f a ≡ Ok w) × Lies f (next a) ws
 
 -- data words: bit 15 clear. Those with bit 14 set are lit, the others are blank
 abbrev pub AllData : List ℕ → Type 0

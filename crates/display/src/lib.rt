@@ -2,13 +2,15 @@
 #![tactic(auto)]
 
 ghost use Rattle.std.specs.Prelude.{◌≡◌};
-ghost use Rattle.definition.specs.Calls.{lending, uncounted};
+ghost use Rattle.definition.specs.Refusal.{refusal_number, answer_of};
+ghost use Rattle.definition.specs.Calls.{lending, uncounted, started_of, read_of};
 ghost use Rattle.definition.specs.Promises.{PromiseCheck, PromiseFresh, PromiseStart, PromiseRun, PromiseStep, PromiseClear, PromiseRead};
 
-use definition::{Counts, Machine, Pixel, Ran, Read, Started};
+use definition::{Counts, Machine, Pixel, Ran, Refusal};
+use outcome::Ranged;
 
-pub fn check(file: &[u16]) -> u8
-    ensures { PromiseCheck file.now result }
+pub fn check(file: &[u16]) -> Result<(), Refusal>
+    ensures { PromiseCheck file.now (answer_of result) }
 {
     still::check(file)
 }
@@ -20,65 +22,60 @@ pub fn fresh() -> Machine
 }
 
 // The counter and the status are set, the rest is kept; from every status, and at odd addresses too.
-pub fn start(m: Machine, address: u16) -> Started
-    ensures { PromiseStart m address result }
+pub fn start(m: Machine, address: u16) -> Result<Machine, Refusal>
+    ensures { PromiseStart m address (started_of m result) }
 {
     still::start(m, address)
 }
 
 // Refused at a door: nothing is counted, and the machine is as given.
-fn turned_away(m: Machine, door: u8) -> Ran
-    ensures { result ≡ uncounted m door }
+fn turned_away(m: Machine, why: Refusal) -> Ran
+    ensures { result ≡ uncounted m (refusal_number why) }
 {
     Ran {
-        answer: door,
-        counts: Counts {
-            steps: 0,
-            words: 0,
-            stores: 0,
-        },
+        answer: u8::from(why),
+        counts: Counts::NOTHING,
         machine: m,
     }
 }
 
-// A run of budget 1.
+// A run of budget 1. It asks the doors by itself, as `run` does: with a call of `run` in its place the calls that are refused cost more (decision x).
 pub fn step(file: &[u16], m: Machine, image: &mut [u8], set: &[u8]) -> Ran
     ensures { PromiseStep (lending file.now set.now) m image.old result image.new }
 {
-    let why = doors::lent_door(file, image);
-    if why != 0 {
+    if let Err(why) = doors::lent_door(file, image) {
         return turned_away(m, why);
     }
-    let also = doors::asked_door(m, 1, set);
-    if also != 0 {
-        return turned_away(m, also);
+    if let Err(why) = doors::asked_door(m, 1, set) {
+        return turned_away(m, why);
     }
-    run::one(file, m, image, set)
+    let image = image.as_mut_array().unwrap();
+    run::one(file, Ranged { machine: m }, image, set.as_array())
 }
 
 // The set is the host's own characters, 760 bytes, or empty: then the built-in set serves.
 pub fn run(file: &[u16], m: Machine, image: &mut [u8], budget: u32, set: &[u8]) -> Ran
     ensures { PromiseRun (lending file.now set.now) m image.old budget result image.new }
 {
-    let wrong = doors::lent_door(file, image);
-    if wrong != 0 {
-        return turned_away(m, wrong);
+    if let Err(why) = doors::lent_door(file, image) {
+        return turned_away(m, why);
     }
-    let shut = doors::asked_door(m, budget, set);
-    if shut != 0 {
-        return turned_away(m, shut);
+    if let Err(why) = doors::asked_door(m, budget, set) {
+        return turned_away(m, why);
     }
-    run::run(file, m, image, budget, set)
+    let image = image.as_mut_array().unwrap();
+    let ranged = Ranged { machine: m };
+    run::run(file, ranged, image, budget, set.as_array())
 }
 
-pub fn clear(image: &mut [u8]) -> u8
-    ensures { PromiseClear image.old result image.new }
+pub fn clear(image: &mut [u8]) -> Result<(), Refusal>
+    ensures { PromiseClear image.old (answer_of result) image.new }
 {
     still::clear(image)
 }
 
-pub fn read_pixel(image: &[u8], p: Pixel) -> Read
-    ensures { PromiseRead image.now p result }
+pub fn read_pixel(image: &[u8], p: Pixel) -> Result<u8, Refusal>
+    ensures { PromiseRead image.now p (read_of result) }
 {
     still::read_pixel(image, p)
 }

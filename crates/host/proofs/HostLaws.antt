@@ -7,24 +7,17 @@ use mathlib.Core.Logic.{◌↔◌}
 use native.Mathlib.Omega.{arith}
 use lib.Dec.{eqb}
 use lib.ListN.{length}
-use lib.IntN.{ℤ}
-use mir.Syntax.{w32}
-use mir.Val.{SFits}
-use mir.Facts.{to_z-of_z}
 use borrow.Author.Tests.{eqb-true, ne_eqb}
-use Rattle.whole.specs.Bits.{rd}
 use Rattle.definition.specs.Choice.{pick, first_of}
-use Rattle.definition.specs.Units.{pixel}
+use Rattle.definition.specs.Refusal.{refusal_number}
 use Rattle.definition.specs.Image.{image_bytes, Left, left}
 use Rattle.definition.specs.File.{head_doors, segment_doors, file_doors}
 use Rattle.definition.specs.Machine.{machine_doors, started_at}
 use Rattle.definition.specs.Run.{begun, run}
-use Rattle.definition.specs.Calls.{image_doors, budget_doors, set_doors, running_doors, Lent, given, start_call, run_doors, run_door, answered, turned_away, run_call}
-use Rattle.definition.specs.Promises.{PromiseRead}
+use Rattle.definition.specs.Calls.{image_doors, budget_doors, set_doors, running_doors, Lent, Started, given, start_call, run_doors, run_door, answered, turned_away, run_call}
 use Rattle.definition.specs.declared.Machine.{Machine}
 use Rattle.definition.specs.declared.Ran.{Ran}
-use Rattle.definition.specs.declared.Started.{Started}
-use Rattle.definition.specs.declared.Read.{Read}
+use Rattle.definition.specs.declared.Refusal.{Refusal}
 use Rattle.definition.proofs.Exactly.{apart, exactly, fails}
 use Rattle.definition.proofs.Plain.{◌so◌, ◌and◌, itself, back, is_less, not_true, not_false, both_true, failing, never}
 use Rattle.demands.specs.Conditions.{Accepted, Fits}
@@ -35,9 +28,9 @@ use Rattle.numbers.specs.declared.HostMachine.{HostMachine}
 use Rattle.numbers.specs.declared.HostRan.{HostRan}
 use Rattle.numbers.specs.declared.HostStarted.{HostStarted}
 use Rattle.numbers.proofs.NumberLaws.{taken_whole, ranged_taken, status_taken, ranged_flags, in_numbers, untouched}
-use Rattle.host.specs.Calls.{number_doors, host_start, host_doors, host_door, host_answered, host_turned_away, host_run, flag_doors, flag_door, started_numbers, ran_numbers, read_numbers}
+use Rattle.host.specs.Calls.{number_doors, host_start, host_doors, host_door, host_answered, host_turned_away, host_run, flag_doors, flag_door, started_numbers, ran_numbers}
 use Rattle.host.specs.Conditions.{HostFits}
-use Rattle.host.specs.Promises.{PromiseHostStart, PromiseHostRun, PromiseHostRead}
+use Rattle.host.specs.Promises.{PromiseHostStart, PromiseHostRun}
 
 -- ---- the ranges
 below_two : {n : ℕ} → (n < 2) ↔ (n ≤ 1)
@@ -75,12 +68,25 @@ module _ (m : HostMachine) (a : ℕ) where
           ≡ record { machine = pick (eqb (pick (not t) 16 0) 0) (numbers_of (started_at (machine_of m) a)) m; answer = pick (not t) 16 0 }
       go true e =
           let fl = ranged_flags m e in
-          rw (← in_numbers m (started_at (taken m) a) fl refl, ← taken_whole m fl refl)
+          rw (in_numbers m (started_at (taken m) a) fl, taken_whole m fl)
       go false e = rw (untouched m)
 
-  pub host_started : {n : Machine} → n ≡ taken m → {s : Started} → s ≡ start_call n a → {k : HostMachine} → k ≡ given_back m s.machine
-      → PromiseHostStart m a (record { machine = k; answer = s.answer })
-  host_started en es ek = rw ek (ap (start_numbers m) (rw en at es) ∙ whole_start)
+  start_open : (host_start m a).answer ≡ 0 → flags m ≡ true
+  unfolding host_start number_doors
+  start_open z = ranged_flags m (not_false.0 (fails 16 (number_doors m) refl z))
+
+  -- what the code does
+  module _ {n : Machine} (en : n ≡ taken m) where
+    answers : {s : Started} → s ≡ start_call n a → start_numbers m s ≡ host_start m a
+    answers es = ap (start_numbers m) (rw en at es) ∙ whole_start
+
+    pub goes : {s : Machine} → record { answer = 0; machine = s } ≡ start_call n a → {k : HostMachine} → k ≡ numbers_of s → PromiseHostStart m a (record { machine = k; answer = 0 })
+    goes {s} es ek =
+        let h = answers es in
+        rw (ek, ← in_numbers m s (start_open (sym (ap (λ (r : HostStarted). r.answer) h)))) h
+
+    pub refused : (why : Refusal) → record { answer = refusal_number why; machine = n } ≡ start_call n a → PromiseHostStart m a (record { machine = m; answer = refusal_number why })
+    refused why es = rw (en, untouched m) at (answers es)
 
   flag_start : flags m ≡ false → host_start m a ≡ record { machine = m; answer = 16 }
   unfolding host_start number_doors first_of
@@ -90,7 +96,7 @@ module _ (m : HostMachine) (a : ℕ) where
   every_start = go (flags m) refl
     where
       go : (t : Bool) → flags m ≡ t → host_start m a ≡ pick t (started_numbers (start_call (machine_of m) a)) (record { machine = m; answer = 16 })
-      go true e = sym whole_start ∙ rw (← taken_whole m e refl, ← in_numbers m (start_call (machine_of m) a).machine e refl)
+      go true e = sym whole_start ∙ rw (taken_whole m e, in_numbers m (start_call (machine_of m) a).machine e)
       go false e = flag_start e
 
   pub start_16 : ((host_start m a).answer ≡ 16) ↔ (HostFits m → ⊥)
@@ -122,7 +128,7 @@ module _ (l : Lent) (m : HostMachine) (im : List ℕ) (b : ℕ) where
           ≡ pick t (host_answered (run (given l) b (begun (machine_of m) im))) (host_turned_away m im door)
       go true e =
           let fl = flags_open (eqb-true _ _ e) in
-          rw (← taken_whole m fl refl, ← in_numbers m (run (given l) b (begun (machine_of m) im)).machine fl refl)
+          rw (taken_whole m fl, in_numbers m (run (given l) b (begun (machine_of m) im)).machine fl)
       go false e = rw (untouched m)
 
   -- ---- with a flag out of range
@@ -143,7 +149,7 @@ module _ (l : Lent) (m : HostMachine) (im : List ℕ) (b : ℕ) where
   every_run = go (flags m) refl
     where
       go : (t : Bool) → flags m ≡ t → host_run l m im b ≡ pick t (ran_numbers (run_call l (machine_of m) im b)) (host_turned_away m im (flag_door l im))
-      go true e = sym whole_run ∙ rw (← taken_whole m e refl, ← in_numbers m (run_call l (machine_of m) im b).result.machine e refl)
+      go true e = sym whole_run ∙ rw (taken_whole m e, in_numbers m (run_call l (machine_of m) im b).result.machine e)
       go false e = flag_run e
 
   pub run_16 : ((host_run l m im b).result.answer ≡ 16) ↔ ((length im ≡ image_bytes) × (Accepted l.file × (HostFits m → ⊥)))
@@ -158,7 +164,3 @@ host_ran l m im b en er ek = rw ek (ap (run_numbers m) (rw en at er) ∙ whole_r
 -- two files that give every machine one run
 pub alike : (l k : Lent) → ((m : Machine) (im : List ℕ) (b : ℕ) → run_call l m im b ≡ run_call k m im b) → (m : HostMachine) (im : List ℕ) (b : ℕ) → host_run l m im b ≡ host_run k m im b
 alike l k e m im b = sym (whole_run l m im b) ∙ ap (run_numbers m) (e (taken m) im b) ∙ whole_run k m im b
-
--- ---- read
-pub host_read : (im : List ℕ) (x y : ℤ) → SFits w32 x → SFits w32 y → {r : Read} → PromiseRead im (pixel (rd w32 x) (rd w32 y)) r → PromiseHostRead im x y (read_numbers r)
-host_read im x y fx fy e = ap read_numbers (rw (to_z-of_z fx, to_z-of_z fy) at e)

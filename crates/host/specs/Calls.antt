@@ -5,10 +5,8 @@ use Rattle.definition.specs.Image.{Left, left}
 use Rattle.definition.specs.File.{file_doors}
 use Rattle.definition.specs.Machine.{started_at}
 use Rattle.definition.specs.Run.{State, begun, run}
-use Rattle.definition.specs.Calls.{Lent, given, image_doors, budget_doors, set_doors, running_doors}
+use Rattle.definition.specs.Calls.{Lent, Started, Read, given, image_doors, budget_doors, set_doors, running_doors}
 use Rattle.definition.specs.declared.Ran.{Ran}
-use Rattle.definition.specs.declared.Read.{Read}
-use Rattle.definition.specs.declared.Started.{Started}
 use Rattle.numbers.specs.Numbers.{numbers_of, machine_of, all_ranged}
 use Rattle.numbers.specs.declared.HostMachine.{HostMachine}
 use Rattle.numbers.specs.declared.HostStarted.{HostStarted}

@@ -5,27 +5,26 @@ use mathlib.Core.Path.{◌≡◌, sym, ap, ◌∙◌}
 use mathlib.Core.List.{List, [], ◌∷◌, ◌++◌}
 use native.Mathlib.Omega.{arith}
 use lib.ListN.{length, length-append}
+use Rattle.std.specs.Prelude.{Option, Some, None}
 use Rattle.definition.specs.Choice.{pick}
 use Rattle.definition.specs.Image.{Shape, Pen, in_field, inside, store, stores, Left, left}
 use Rattle.definition.specs.declared.Pixel.{Pixel}
 use Rattle.definition.proofs.StoreLaws.{stores_append, inside_append}
 use Rattle.units.specs.Answers.{index_in}
-use Rattle.units.specs.declared.Index.{Index}
-use Rattle.units.specs.declared.Index.TheVariants.{At, Outside}
 use Rattle.units.proofs.AnswerLaws.{index_at, index_outside}
 use Rattle.image.specs.Drawn.{drawn}
 
 -- ---- one pixel
-module _ (s : Shape) (pen : Pen) (im : List ℕ) (p : Pixel) {gx : Index} where
-  pub drawn_beside : gx ≡ index_in s.width p.x → gx ≡ Outside → left 0 im ≡ drawn s pen im (p ∷ [])
+module _ (s : Shape) (pen : Pen) (im : List ℕ) (p : Pixel) {gx : Option ℕ} where
+  pub drawn_beside : gx ≡ index_in s.width p.x → gx ≡ None → left 0 im ≡ drawn s pen im (p ∷ [])
   unfolding drawn inside in_field stores
   drawn_beside e o = rw (index_outside s.width p.x (sym e ∙ o))
 
-  pub drawn_above : {x : ℕ} {gy : Index} → gx ≡ index_in s.width p.x → gx ≡ At x → gy ≡ index_in s.height p.y → gy ≡ Outside → left 0 im ≡ drawn s pen im (p ∷ [])
+  pub drawn_above : {x : ℕ} {gy : Option ℕ} → gx ≡ index_in s.width p.x → gx ≡ Some x → gy ≡ index_in s.height p.y → gy ≡ None → left 0 im ≡ drawn s pen im (p ∷ [])
   unfolding drawn inside in_field stores
   drawn_above e a e' o = rw ((index_at s.width p.x (sym e ∙ a)).0, index_outside s.height p.y (sym e' ∙ o))
 
-  pub drawn_in : {x y : ℕ} {gy : Index} {im' : List ℕ} → gx ≡ index_in s.width p.x → gx ≡ At x → gy ≡ index_in s.height p.y → gy ≡ At y → im' ≡ store s pen im x y
+  pub drawn_in : {x y : ℕ} {gy : Option ℕ} {im' : List ℕ} → gx ≡ index_in s.width p.x → gx ≡ Some x → gy ≡ index_in s.height p.y → gy ≡ Some y → im' ≡ store s pen im x y
       → left 1 im' ≡ drawn s pen im (p ∷ [])
   unfolding drawn inside in_field stores
   drawn_in e a e' a' st =

@@ -1,7 +1,7 @@
 // The display file that an argument of a program names.
 #![tactic(auto)]
 
-ghost use Rattle.std.specs.Prelude.{◌≡◌, take, IfSome, IsTrue};
+ghost use Rattle.std.specs.Prelude.{◌≡◌, ◌≤◌, length, take, IfSome};
 ghost use Rattle.io.specs.Counts.{IsPrefixLen};
 ghost use Rattle.std.specs.Io.KnownBytes.{Consumes};
 
@@ -16,13 +16,6 @@ pub const ROOM: usize = 65537;
 // As long as a path may be, with the byte that ends it.
 pub const NAME_ROOM: usize = 4096;
 
-// How many bytes were taken, and whether the file was read: to its end, or as far as there is room.
-#[derive(Drop)]
-pub struct Taken {
-    pub length: usize,
-    pub is_read: bool,
-}
-
 // How many arguments the program was started with, its own name among them.
 pub fn argument_count(rt: &impl Env) -> usize {
     for i in 0..usize::MAX {
@@ -33,17 +26,18 @@ pub fn argument_count(rt: &impl Env) -> usize {
     usize::MAX
 }
 
-// Puts an argument at the start of the bytes, and answers its length: 0 where it is missing or longer than they are.
-pub fn take_argument(rt: &impl Env, i: usize, name: &mut [u8]) -> usize
-    ensures { IsPrefixLen result name.new }
+// An argument, put at the start of the bytes: empty where it is missing or longer than they are.
+pub fn take_argument<'a>(rt: &impl Env, i: usize, name: &'a mut [u8]) -> &'a [u8]
+    ensures { length result.now ≤ length name.old }
 {
     match rt.arg(i, name) {
-        Ok(length) => length,
-        Err(_) => 0,
+        Ok(length) => &name[..length],
+        Err(_) => &[],
     }
 }
 
-// Reads until the bytes are full, the input ends or a read fails, and answers how many it put at their start.
+// Reads until the bytes are full, the input ends or a read fails, and answers how many it put at their start. No `for`: a read may bring any number of bytes.
+// The number and no slice: its clauses are about the whole list.
 pub fn read_full<R: Read>(from: &mut R, bytes: &mut [u8]) -> usize
     ensures prefix_len { IsPrefixLen result bytes.new }
     ensures taken { Consumes (R.remaining from.old) (R.remaining from.new) (take result bytes.new) }
@@ -64,20 +58,20 @@ fn is_dash(name: &[u8]) -> bool {
 
 // Where less came than there is room for, the file ended or a read failed, as that of a folder does. One more read tells which. What was taken of a file
 // that was read is its first 65,537 bytes.
-fn take<R: Read>(from: &mut R, bytes: &mut [u8; ROOM]) -> Taken
-    ensures prefix_len { IsPrefixLen result.length bytes.new }
-    ensures taken { IsTrue result.is_read → IfSome (R.remaining from.old) (λ file. take result.length bytes.new ≡ take 65537 file) }
+fn take<'a, R: Read>(from: &mut R, bytes: &'a mut [u8; ROOM]) -> Option<&'a [u8]>
+    ensures bound { IfSome result (λ taken. length taken.now ≤ 65537) }
+    ensures taken { IfSome result (λ taken. IfSome (R.remaining from.old) (λ file. taken.now ≡ take 65537 file)) }
 {
     let length = read_full(from, bytes);
+    let taken = &bytes[..length];
     if length == ROOM {
-        return Taken {
-            length,
-            is_read: true,
-        };
+        return Some(taken);
     }
     let mut more = [0u8; 1];
-    let is_read = matches!(from.read(&mut more), Ok(0));
-    Taken { length, is_read }
+    match from.read(&mut more) {
+        Ok(0) => Some(taken),
+        _ => None,
+    }
 }
 
 // A file is opened by a name that is UTF-8, so one with another name is not found.
@@ -86,22 +80,19 @@ fn open<R: Files>(rt: &R, name: &[u8]) -> Option<R::File> {
     fs::open(rt, path).ok()
 }
 
-// Puts the file that an argument names at the start of the bytes. The argument `-` is standard input. One that is missing or too long for a path is
-// empty here, and no file has an empty name.
-pub fn read(rt: &(impl Env + Files + Input), argument: usize, bytes: &mut [u8; ROOM]) -> Taken
-    ensures { IsPrefixLen result.length bytes.new }
+// The file that an argument names, put at the start of the bytes: to its end, or as far as there is room, and none where it was not read. The argument `-`
+// is standard input. One that is missing or too long for a path is empty here, and no file has an empty name.
+pub fn read<'a>(
+    rt: &(impl Env + Files + Input),
+    argument: usize,
+    bytes: &'a mut [u8; ROOM],
+) -> Option<&'a [u8]>
+    ensures { IfSome result (λ taken. length taken.now ≤ 65537) }
 {
     let mut name = [0u8; NAME_ROOM];
-    let length = take_argument(rt, argument, &mut name);
-    let name = &name[..length];
+    let name = take_argument(rt, argument, &mut name);
     if is_dash(name) {
         return take(&mut rt.reader(), bytes);
     }
-    match open(rt, name) {
-        Some(mut file) => take(&mut file, bytes),
-        None => Taken {
-            length: 0,
-            is_read: false,
-        },
-    }
+    take(&mut open(rt, name)?, bytes)
 }

@@ -1,6 +1,6 @@
 -- Laws of items: where a coordinate is led, what is lit, and the step of an item that is refused or goes.
 use Prim.Native.Nat.{ℕ, ◌<◌}
-use mathlib.Core.Bool.{Bool, true, false, not, ◌&&◌}
+use mathlib.Core.Bool.{Bool, true, false, ◌&&◌}
 use mathlib.Core.Path.{◌≡◌, refl, sym, ap, ◌∙◌}
 use mathlib.Core.List.{List, [], ◌∷◌}
 use mathlib.Core.Logic.{◌⊎◌}
@@ -9,8 +9,8 @@ use lib.IntN.{pos}
 use mir.Syntax.{w32}
 use mir.Val.{to_z}
 use mir.Facts.{to_z_pos}
-use borrow.Author.Tests.{not-true, not-false}
-use Rattle.definition.specs.Units.{units, moved}
+use Rattle.std.specs.Prelude.{Option, Some, None}
+use Rattle.definition.specs.Units.{units}
 use Rattle.definition.specs.Image.{Left, left, square, pixel_at, ink_shape, ink_pen, stores}
 use Rattle.definition.specs.Vector.{vector}
 use Rattle.definition.specs.Machine.{ink_of, in_range}
@@ -22,8 +22,6 @@ use Rattle.definition.specs.declared.Machine.{Machine}
 use Rattle.definition.specs.declared.Ink.{Ink}
 use Rattle.definition.proofs.Plain.{either_true}
 use Rattle.units.specs.Answers.{moved_to}
-use Rattle.units.specs.declared.Moved.{Moved}
-use Rattle.units.specs.declared.Moved.TheVariants.{To, Out}
 use Rattle.units.proofs.AnswerLaws.{moved_to_is, moved_out}
 use Rattle.image.specs.Drawn.{drawn}
 use Rattle.items.specs.Ends.{Leads}
@@ -35,26 +33,12 @@ use Rattle.items.specs.Goes.{vector_to, kept, lights, placed, goes}
 pub set_leads : (u v : Units) → in_range v ≡ true → Leads u (Set v) v
 set_leads u v e = record { stays = rw e; to = refl; within = e }
 
-module _ (u by : Units) {got : Moved} (e : got ≡ moved_to u by) where
-  pub move_leads : {v : Units} → got ≡ To v → Leads u (Move by) v
+module _ (u by : Units) {got : Option Units} (e : got ≡ moved_to u by) where
+  pub move_leads : {v : Units} → got ≡ Some v → Leads u (Move by) v
   move_leads t = let w = moved_to_is u by (sym e ∙ t) in record { stays = rw w.0; to = w.1; within = rw (← w.1) w.0 }
 
-  pub move_leaves : got ≡ Out → leaves u (Move by) ≡ true
+  pub move_leaves : got ≡ None → leaves u (Move by) ≡ true
   move_leaves o = rw (moved_out u by (sym e ∙ o))
-
--- the same for a move whose range was asked first
-module _ (u by : Units) {d : Units} (e : d ≡ by) {on : Bool} (a : on ≡ in_range (moved u d)) where
-  asked : in_range (moved u by) ≡ on
-  asked = ap (λ (v : Units). in_range (moved u v)) (sym e) ∙ sym a
-
-  pub may_lead : {v : Units} → not on ≡ false → v ≡ moved u d → Leads u (Move by) v
-  may_lead t ev =
-      let w : in_range (moved u by) ≡ true = asked ∙ not-false on t in
-      let to = ap (moved u) (sym e) ∙ sym ev in
-      record { stays = rw w; to = to; within = rw (← to) w }
-
-  pub may_not : not on ≡ true → leaves u (Move by) ≡ true
-  may_not t = rw (asked ∙ not-true on t)
 
 -- the increment, as the machine's signed number
 pub by_increment : (n : ℕ) → n < 256 → units (to_z w32 n) ≡ units (pos n)
@@ -62,19 +46,19 @@ by_increment n h = ap units (to_z_pos w32 (omega arith))
 
 -- ---- what is lit
 module _ (m : Machine) (lit : Bool) (im : List ℕ) {on : Bool} (e : on ≡ lit && m.write) where
-  pub dark : (ps : List Pixel) → not on ≡ true → left 0 im ≡ lights m lit im ps
+  pub dark : (ps : List Pixel) → on ≡ false → left 0 im ≡ lights m lit im ps
   unfolding lights kept stores
-  dark ps t = rw (← e, not-true on t)
+  dark ps t = rw (← e, t)
 
-  module _ (x y : Units) {n : ℕ} {im' : List ℕ} (t : not on ≡ false) where
+  module _ (x y : Units) {n : ℕ} {im' : List ℕ} (t : on ≡ true) where
     pub lit_point : {p : Pixel} {k : Ink} → p ≡ pixel_at square x y → k ≡ ink_of m → left n im' ≡ drawn (ink_shape k) (ink_pen k) im (p ∷ []) → left n im' ≡ lights m lit im (point_at m x y)
     unfolding lights kept drawn
-    lit_point ep ek d = rw (← e, not-false on t, ← ep, ← ek) d
+    lit_point ep ek d = rw (← e, t, ← ep, ← ek) d
 
     pub lit_line : {a b : Pixel} {k : Ink} → a ≡ pixel_at square m.x m.y → b ≡ pixel_at square x y → k ≡ ink_of m → left n im' ≡ drawn (ink_shape k) (ink_pen k) im (vector a b)
         → left n im' ≡ lights m lit im (vector_to m x y)
     unfolding lights kept drawn
-    lit_line ea eb ek d = rw (← e, not-false on t) (d ∙ rw (ea, eb, ek))
+    lit_line ea eb ek d = rw (← e, t) (d ∙ rw (ea, eb, ek))
 
 -- ---- the item
 module _ (m : Machine) (lit : Bool) (im : List ℕ) (w : Way) (second : Bool) {r : Stepped} where

@@ -1,17 +1,18 @@
 -- Laws of a word of two characters: where a character leads, the corner of its cell, the set that serves, and what both draw.
 use Prim.Native.Nat.{ℕ, ◌+◌, ◌*◌, ◌≤◌}
-use mathlib.Core.Bool.{true, false, not}
+use mathlib.Core.Bool.{true, false}
 use mathlib.Core.Path.{◌≡◌, refl, sym, ap, ◌∙◌}
 use mathlib.Core.List.{List}
 use mathlib.Core.Logic.{◌⊎◌}
 use lib.ListN.{length}
 use lib.IntN.{pos, negsuc, ◌+ℤ◌}
 use lib.Signed.{le_z}
-use borrow.Author.Tests.{not-false}
+use borrow.Author.Tests.{ne_eqb}
 use Rattle.whole.specs.Parts.{whole, add}
 use Rattle.definition.specs.Units.{units, moved}
 use Rattle.definition.specs.Image.{square, pixel_at, left, stores}
-use Rattle.definition.specs.Characters.{cell_of, cell_pixels}
+use Rattle.definition.specs.BuiltIn.{built_in}
+use Rattle.definition.specs.Characters.{chosen}
 use Rattle.definition.specs.Machine.{shape_of, pen_of, in_range}
 use Rattle.definition.specs.Step.{Step, Way, leaves, advance, character_at, refuses}
 use Rattle.definition.specs.Step.Change.{Stay}
@@ -60,19 +61,20 @@ pub corner_near : (x y : Units) (p : Pixel) → p ≡ pixel_at square x y → in
 corner_near x y p e hx hy = near p (rw e (reaches x y hx hy))
 
 module _ (m : Machine) (set : List ℕ) (im : List ℕ) where
-  pub letter_is : (x : Units) (code : ℕ) {p : Pixel} {cell : List ℕ} {r : ℕ} {im' : List ℕ} → p ≡ pixel_at square x m.y → cell ≡ cell_of set code
-      → left r im' ≡ drawn (shape_of m) (pen_of m) im (cell_pixels p cell) → left r im' ≡ drawn (shape_of m) (pen_of m) im (character_at set m x m.y code)
-  letter_is x code ep ec d = rw (← ep, ← ec) d
-
   pub letter_at_most : (x : Units) (code : ℕ) {r : ℕ} {im' : List ℕ} → left r im' ≡ drawn (shape_of m) (pen_of m) im (character_at set m x m.y code) → r ≤ 64
   letter_at_most x code d = cell_at_most (shape_of m) (pen_of m) im _ _ d
 
   -- ---- both characters
-  pub both_lit : (first second : ℕ) {next : Units} → next ≡ moved m.x (units (pos advance)) → not m.write ≡ false → {n r : ℕ} {im' im'' : List ℕ}
+  pub both_lit : (first second : ℕ) {next : Units} → next ≡ moved m.x (units (pos advance)) → m.write ≡ true → {n r : ℕ} {im' im'' : List ℕ}
       → left n im' ≡ drawn (shape_of m) (pen_of m) im (character_at set m m.x m.y first) → left r im'' ≡ drawn (shape_of m) (pen_of m) im' (character_at set m next m.y second)
       → left (n + r) im'' ≡ lights m true im (pair_pixels set m first second)
   unfolding lights kept drawn
-  both_lit first second e w d d' = rw (not-false m.write w, ← e) (drawn_then (shape_of m) (pen_of m) im _ _ d d')
+  both_lit first second e w d d' = rw (w, ← e) (drawn_then (shape_of m) (pen_of m) im _ _ d d')
+
+-- the set that is there is the one that serves
+pub serving : (set : List ℕ) → (length set ≡ 0 → ⊥) → chosen set built_in ≡ set
+unfolding chosen
+serving set h = rw (ne_eqb _ _ h)
 
 -- ---- the word, by what was asked: whether X may move, and whether a set is there
 module _ (m : Machine) (im : List ℕ) (set : List ℕ) (w : Way) (ps : List Pixel) where

@@ -1,50 +1,39 @@
--- The words of a list of bytes, put into a list one after the other: those that are there, and then the words of the bytes that are left, are all of them; and
--- the rest of the list is as it was.
-use Prim.Native.Nat.{ℕ, suc, ◌+◌, ◌*◌, ◌/◌, ◌<◌, ◌≤◌}
-use mathlib.Core.List.{List, [], ◌∷◌, ◌++◌, append-nil}
-use mathlib.Core.Path.{◌≡◌, refl, sym, ap, ◌∙◌}
-use native.Mathlib.Numerals.{add-one}
-use native.Mathlib.Omega.{arith}
-use lib.ListN.{length, get_or, set, take, drop, length-drop}
-use lib.Seq.{length-take-le, drop-cons, drop-set-lt, take-suc-set, drop-drop, append_snoc}
-use Rattle.io.specs.Counts.{IsPrefixLen}
+-- The words of a list of bytes are those of its pairs.
+use Rattle.std.proofs.Common.{◌≡◌, ℕ, suc, ◌+◌, ◌*◌, ◌/◌, ◌<◌, ◌≤◌, List, [], ◌∷◌, map, length, take, get_or, refl, arith, sym, subst, zero-add}
+use Rattle.std.proofs.Math.ListN.{set}
+use Rattle.std.proofs.Math.Seq.{paste, take-length}
+use Rattle.std.proofs.lemmas.List.{get_or-map, length-map}
+use Rattle.std.proofs.lemmas.List.Edits.{paste_more, take-paste}
+use Rattle.std.specs.Int.{w16, from_le_bytes}
+use Rattle.std.specs.Simd.{first_chunks}
 use Rattle.definition.specs.Plot.{words_in}
 
--- ---- two lists that are the same from a place on: so they are further on, and after a store at that place
-module _ (xs ys : List ℕ) (i : ℕ) (same : drop i xs ≡ drop i ys) where
-  pub same_on : (k : ℕ) → drop (i + k) xs ≡ drop (i + k) ys
-  same_on k = sym (drop-drop k i xs) ∙ ap (drop k) same ∙ drop-drop k i ys
+-- the low byte first
+abbrev pub word : List ℕ → ℕ
+word pair = from_le_bytes w16 pair
 
-  pub same_after : (v : ℕ) → drop (i + 1) (set xs i v) ≡ drop (i + 1) ys
-  same_after v = drop-set-lt (i + 1) xs i v (omega arith) ∙ same_on 1
-
--- ---- i words are there
-abbrev pub Begun : List ℕ → List ℕ → ℕ → Type 0
-Begun bytes words i = take i words ++ words_in (drop (2 * i) bytes) ≡ words_in bytes
-
-abbrev pub word_at : List ℕ → ℕ → ℕ
-word_at bytes i = get_or bytes (2 * i) 0 + 256 * get_or bytes (2 * i + 1) 0
-
-two_on : (i : ℕ) → 2 * suc i ≡ suc (suc (2 * i))
-two_on i = omega arith
-
-pair : (bytes : List ℕ) (i : ℕ) → 2 * i + 1 < length bytes → words_in (drop (2 * i) bytes) ≡ word_at bytes i ∷ words_in (drop (2 * suc i) bytes)
+pub words_of_pairs : (bytes : List ℕ) → words_in bytes ≡ map word (first_chunks 2 (length bytes / 2) bytes)
 unfolding words_in
-pair bytes i h = rw (two_on i, add-one (2 * i), drop-cons bytes (2 * i) 0 (omega arith), drop-cons bytes (suc (2 * i)) 0 (omega arith))
+words_of_pairs [] = refl
+words_of_pairs (low ∷ []) = refl
+words_of_pairs (low ∷ high ∷ rest) =
+    let count : length (low ∷ high ∷ rest) / 2 ≡ suc (length rest / 2) = omega arith in
+    let first : low + 256 * high ≡ word (low ∷ high ∷ []) = omega arith in
+    rw (count, first, words_of_pairs rest) refl
 
-pub one_more : (bytes words : List ℕ) (i : ℕ) {v : ℕ} → i < length words → 2 * i + 1 < length bytes → v ≡ word_at bytes i
-    → Begun bytes words i → Begun bytes (set words i v) (i + 1)
-one_more bytes words i {v} h k e so =
-    rw (add-one i, take-suc-set words i v h, append_snoc (take i words) v (words_in (drop (2 * suc i) bytes)), e, ← pair bytes i k) so
+-- ---- the first i of them stand at the start of a list
+pub one_more : (before : List ℕ) (pairs : List (List ℕ)) (i : ℕ) {words : List ℕ} {v : ℕ} → i < length pairs → length pairs ≤ length before → v ≡ word (get_or pairs i [])
+    → words ≡ paste before 0 (map word pairs) i → set words i v ≡ paste before 0 (map word pairs) (i + 1)
+one_more before pairs i h k e so =
+    let s = map word pairs in
+    let n : i < length s = omega (arith, length-map pairs word) in
+    let P : ℕ → Type 0 = λ at. set (paste before 0 s i) at (get_or s i 0) ≡ paste before 0 s (i + 1) in
+    rw (so, e, ← get_or-map word pairs i [] 0 h) (subst P (zero-add i) (paste_more before 0 s i 0 (omega arith) n))
 
-no_pair : (bytes : List ℕ) → length bytes < 2 → words_in bytes ≡ []
-unfolding words_in
-no_pair [] h = refl
-no_pair (low ∷ []) h = refl
-no_pair (low ∷ high ∷ rest) h = absurd (omega arith)
-
-pub all_there : (bytes before words : List ℕ) (i : ℕ) {n : ℕ} → Begun bytes words i → drop i words ≡ drop i before → n ≡ length bytes / 2 → i ≡ n → n ≤ length words
-    → IsPrefixLen n words × ((take n words ≡ words_in bytes) × (drop n words ≡ drop n before))
-all_there bytes before words i so rest e p h =
-    let none = no_pair (drop (2 * i) bytes) (omega (arith, length-drop (2 * i) bytes)) in
-    ((h, sym (length-take-le _ words h)), (rw (← p) (sym (append-nil (take i words)) ∙ (rw none at so)), rw (← p) rest))
+pub all_there : (bytes before : List ℕ) (pairs : List (List ℕ)) (i : ℕ) {words : List ℕ} → pairs ≡ first_chunks 2 (length bytes / 2) bytes → i ≡ length pairs
+    → words ≡ paste before 0 (map word pairs) i → take (length pairs) words ≡ words_in bytes
+all_there bytes before pairs i p e so =
+    let s = map word pairs in
+    let n : i ≡ length s = omega (arith, length-map pairs word) in
+    let P : ℕ → Type 0 = λ end. take end (paste before 0 s i) ≡ take i s in
+    rw (← e, so, subst P (zero-add i) (take-paste before 0 s i (omega arith) (omega arith)), n, take-length) (rw p (sym (words_of_pairs bytes)))

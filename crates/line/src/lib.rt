@@ -6,11 +6,13 @@ ghost use Rattle.io.specs.Counts.{IsPrefixLen};
 ghost use Rattle.definition.specs.Image.{blank};
 ghost use Rattle.definition.specs.Machine.{fresh};
 ghost use Rattle.definition.specs.Calls.{plain, run_call};
+ghost use Rattle.definition.specs.Refusal.{refusal_number};
 ghost use Rattle.definition.specs.Plot.{words_in, plot_budget, ran_line, refused_line, plot_line};
 ghost use Rattle.line.specs.Numbers.{numbers};
 
-use definition::Units;
+use definition::{Refusal, Units};
 
+// The answer is a number, as the line has it: of a refusal, or the last status of a run.
 #[derive(Clone, Copy)]
 pub struct Line {
     pub answer: u8,
@@ -25,36 +27,26 @@ pub struct Line {
 const BUDGET: u32 = 1000;
 
 // ---- the numbers
-// Two bytes a word, the low one first.
-fn word_of(low: u8, high: u8) -> u16
-    ensures { result ≡ low + 256 * high }
-{
-    low as u16 + 256 * (high as u16)
-}
-
-// Puts the words of the bytes at the start of a list that has room for them, leaves the rest of it, and answers how many they are.
+// Puts the words of the bytes, two bytes a word and the low one first, at the start of a list that has room for them, leaves the rest of it, and answers how many they are.
+// The number and no slice: its clauses are about the whole list.
 pub fn words_of(bytes: &[u8], words: &mut [u16]) -> usize
     requires { length bytes.now / 2 ≤ length words.old }
     ensures prefix_len { IsPrefixLen result words.new }
     ensures words_after { take result words.new ≡ words_in bytes.now }
     ensures words_unchanged { drop result words.new ≡ drop result words.old }
 {
-    let n = bytes.len() / 2;
-    let mut i = 0;
-    while i < n {
-        let low = bytes[2 * i];
-        let high = bytes[2 * i + 1];
-        words[i] = word_of(low, high);
-        i += 1;
+    let (pairs, _) = bytes.as_chunks::<2>();
+    for (i, pair) in pairs.iter().enumerate() {
+        words[i] = u16::from_le_bytes(*pair);
     }
-    n
+    pairs.len()
 }
 
-fn refused(answer: u8) -> Line
-    ensures { numbers result ≡ refused_line answer }
+fn refused(why: Refusal) -> Line
+    ensures { numbers result ≡ refused_line (refusal_number why) }
 {
     Line {
-        answer,
+        answer: u8::from(why),
         steps: 0,
         words: 0,
         stores: 0,
@@ -88,10 +80,10 @@ pub fn line_of(bytes: &[u8]) -> Line
     ensures { numbers result ≡ plot_line bytes.now }
 {
     if bytes.len() % 2 != 0 {
-        return refused(19);
+        return refused(Refusal::BadInput);
     }
     if 65536 < bytes.len() {
-        return refused(19);
+        return refused(Refusal::BadInput);
     }
     let mut words = [0u16; 32768];
     let n = words_of(bytes, &mut words);

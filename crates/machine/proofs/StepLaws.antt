@@ -3,7 +3,6 @@ use Prim.Native.Nat.{ℕ}
 use mathlib.Core.Bool.{Bool, true, false, not, ◌&&◌, ◌||◌}
 use mathlib.Core.List.{List, [], ◌++◌}
 use mathlib.Core.Path.{◌≡◌, refl, sym, ap, subst, ◌∙◌}
-use native.Mathlib.Omega.{arith}
 use lib.Dec.{eqb}
 use lib.IntN.{pos, negsuc}
 use lib.Signed.{le_z, ◌≤ℤ◌}
@@ -11,6 +10,8 @@ use borrow.Author.Tests.{ne_eqb}
 use Rattle.whole.specs.Parts.{whole}
 use Rattle.definition.specs.Choice.{pick, Test, first_of}
 use Rattle.definition.specs.Image.{left, stores}
+use Rattle.std.specs.Prelude.{Result, Ok, Err}
+use Rattle.definition.specs.Refusal.{refusal_number}
 use Rattle.definition.specs.File.{word_in, number_of, number_in, fetch_refusals}
 use Rattle.definition.specs.Words.{bit, bits, long, coordinate, first_code, second_code, item, is_lit, decode, jumps, paired, is_code, first_refusals, second_refusals}
 use Rattle.definition.specs.Machine.{with_counter, in_range}
@@ -21,8 +22,7 @@ use Rattle.definition.specs.declared.Units.{Units}
 use Rattle.definition.specs.declared.Machine.{Machine}
 use Rattle.definition.specs.declared.Unfetched.{Unfetched}
 use Rattle.definition.specs.declared.Unfetched.TheVariants.{Odd, NoSegment, NoPlace}
-use Rattle.definition.specs.declared.Fetched.{Fetched}
-use Rattle.definition.specs.declared.Fetched.TheVariants.{Word, Refused}
+use Rattle.definition.specs.declared.Refusal.{Refusal}
 use Rattle.definition.specs.declared.Order.{Order}
 use Rattle.definition.specs.declared.Order.TheVariants.{SetMode, Jump, NoOp, StatusA, Increment, StatusC}
 use Rattle.definition.specs.declared.Item.{Item}
@@ -30,15 +30,14 @@ use Rattle.definition.specs.declared.Item.TheVariants.{LongVector, AbsolutePoint
 use Rattle.definition.specs.declared.Instruction.{Instruction}
 use Rattle.definition.specs.declared.Instruction.TheVariants.{Does, Draws}
 use Rattle.definition.proofs.Exactly.{apart, passes, stops, fails}
+use Rattle.definition.proofs.Refusals.{some_number}
 use Rattle.definition.proofs.Plain.{not_false, both_true, is_most_z}
 use Rattle.definition.proofs.StepLaws.{pick_keeps}
 use Rattle.outcome.specs.Outcome.{told, stepped, put_off, completed}
 use Rattle.outcome.specs.declared.Stepped.{Stepped}
 use Rattle.outcome.proofs.PutOffLaws.{refused_now}
 use Rattle.items.specs.Goes.{kept, placed, goes}
-use Rattle.machine.specs.declared.Second.{Second}
-use Rattle.machine.specs.declared.Second.TheVariants.{Taken, Turned}
-use Rattle.machine.specs.Seconds.{Seconds}
+use Rattle.machine.specs.Fetches.{Firsts, Seconds}
 use Rattle.machine.specs.Rest.{Drawable, rest_refusals, rest, draws_letters, later, later_step, passed_by}
 
 -- a step that lights no pixel leaves the image
@@ -49,28 +48,18 @@ dark m im {t} {s} {r} n er e =
     rw (er ∙ ap told e, z)
 
 -- ---- what a fetch is refused for
-fetch_number : (got : Fetched) → first_of (fetch_refusals got) ≡ number_in got
+fetch_number : (got : Result ℕ Unfetched) → first_of (fetch_refusals got) ≡ number_in got
 unfolding first_of fetch_refusals
-fetch_number (Word w) = refl
-fetch_number (Refused Odd) = refl
-fetch_number (Refused NoSegment) = refl
-fetch_number (Refused NoPlace) = refl
+fetch_number (Ok w) = refl
+fetch_number (Err Odd) = refl
+fetch_number (Err NoSegment) = refl
+fetch_number (Err NoPlace) = refl
 
-some_number : (why : Unfetched) → number_of why ≡ 0 → ⊥
-some_number Odd e = omega arith
-some_number NoSegment e = omega arith
-some_number NoPlace e = omega arith
-
--- a fetch that is refused answers with its number, which is not 0
-module _ {got f : Fetched} (eg : got ≡ f) {why : Unfetched} (e : got ≡ Refused why) {n : ℕ} (en : n ≡ number_in got) where
-  numbered : first_of (fetch_refusals f) ≡ n
-  numbered = ap (λ (g : Fetched). first_of (fetch_refusals g)) (sym eg) ∙ fetch_number got ∙ sym en
-
-  not_zero : n ≡ 0 → ⊥
-  not_zero q = some_number why (sym (ap number_in e) ∙ sym en ∙ q)
-
-  stopped : (ts : List Test) → first_of (fetch_refusals f ++ ts) ≡ n
-  stopped ts = stops (fetch_refusals f) ts (λ q. not_zero (sym numbered ∙ q)) ∙ numbered
+-- a fetch that is refused answers with its number, whatever is asked after it
+not_fetched : {got : Result ℕ Unfetched} {why : Unfetched} (r : Refusal) (ts : List Test) → got ≡ Err why → refusal_number r ≡ number_of why → first_of (fetch_refusals got ++ ts) ≡ refusal_number r
+not_fetched {got} {why} r ts e en =
+    let n : first_of (fetch_refusals got) ≡ refusal_number r = fetch_number got ∙ ap number_in e ∙ sym en in
+    stops (fetch_refusals got) ts (λ q. some_number r (sym n ∙ q)) ∙ n
 
 module _ (g : Given) (m : Machine) where
   step_for : (n : ℕ) → refusal g m ≡ n → (n ≡ 0 → ⊥) → refuses m n ≡ step g m
@@ -165,44 +154,39 @@ module _ (g : Given) (m : Machine) where
   unfolding ordered
   obeyed_no_op o e er = obeyed o e refl refl er
 
-  pub obeyed_jump : (o : Order) → o ≡ Jump → {r : Stepped} → r ≡ told (rest g m (Does Jump)) → r ≡ told (rest g m (Does o))
-  obeyed_jump o e er = rw e er
-
   -- and none lights a pixel
   order_dark : (o : Order) → (rest g m (Does o)).pixels ≡ []
   unfolding rest
   order_dark o = pick_keeps (λ (t : Step). t.pixels ≡ []) (eqb (first_of (rest_refusals m (Does o) (second g m))) 0) (λ e. refl) (λ e. refl)
 
-  module _ {got : Fetched} (eg : got ≡ second g m) where
-    pub jump_ends : {why : Unfetched} {n : ℕ} → got ≡ Refused why → n ≡ number_in got → {r : Stepped} → r ≡ told (refuses m n) → r ≡ told (rest g m (Does Jump))
+  module _ {got : Result ℕ Unfetched} (eg : got ≡ second g m) where
+    pub jump_ends : {why : Unfetched} (n : Refusal) → got ≡ Err why → refusal_number n ≡ number_of why → {r : Stepped} → r ≡ told (refuses m (refusal_number n)) → r ≡ told (rest g m (Does Jump))
     unfolding rest_refusals fetch_refusals
-    jump_ends {why} {n} e en er = er ∙ ap told (rest_for g m (Does Jump) n (stopped eg e en _) (not_zero eg e en))
+    jump_ends n e en er = er ∙ ap told (rest_for g m (Does Jump) (refusal_number n) (not_fetched n _ (sym eg ∙ e) en) (some_number n))
 
-    pub jump_done : {v : ℕ} → got ≡ Word v → {r : Stepped} → r ≡ completed (with_counter m v) 2 0 → r ≡ told (rest g m (Does Jump))
+    pub jump_done : {v : ℕ} → got ≡ Ok v → {r : Stepped} → r ≡ completed (with_counter m v) 2 0 → r ≡ told (rest g m (Does Jump))
     unfolding rest rest_refusals first_of fetch_refusals second_refusals way_refusals done ordered
     jump_done e er = rw (← eg, e, er)
 
     -- ---- the second word of a long vector or an absolute point
-    pub second_not_fetched : {why : Unfetched} {n : ℕ} → got ≡ Refused why → n ≡ number_in got → Seconds g m (Turned n)
-    second_not_fetched e en = (not_zero eg e en, stopped eg e en _)
+    pub second_not_fetched : {why : Unfetched} (n : Refusal) → got ≡ Err why → refusal_number n ≡ number_of why → Seconds g m (Err n)
+    second_not_fetched n e en = not_fetched n _ (sym eg ∙ e) en
 
-    module _ {v : ℕ} (e : got ≡ Word v) {why : ℕ} (ew : why ≡ first_of (second_refusals v)) where
-      pub second_turned : (why ≡ 0 → ⊥) → Seconds g m (Turned why)
+    module _ {v : ℕ} (e : got ≡ Ok v) where
+      pub second_turned : (why : Refusal) → refusal_number why ≡ first_of (second_refusals v) → Seconds g m (Err why)
       unfolding first_of fetch_refusals
-      second_turned h = (h, rw (← eg, e) (sym ew))
+      second_turned why t = rw (← eg, e) (sym t)
 
-      pub second_taken : why ≡ 0 → Seconds g m (Taken v)
-      second_taken z = (sym eg ∙ e, sym ew ∙ z)
-
-module _ (g : Given) (m : Machine) (im : List ℕ) (lit : Bool) {got : Second} (eg : Seconds g m got) where
-  pub item_turned : (it : Item) → paired it ≡ true → {n : ℕ} → got ≡ Turned n → {r : Stepped} → r ≡ told (refuses m n) → left r im ≡ stepped m im (rest g m (Draws lit it))
+module _ (g : Given) (m : Machine) (im : List ℕ) (lit : Bool) {got : Result ℕ Refusal} (eg : Seconds g m got) where
+  pub item_turned : (it : Item) → paired it ≡ true → {why : Refusal} → got ≡ Err why → {r : Stepped} → r ≡ told (refuses m (refusal_number why)) → left r im ≡ stepped m im (rest g m (Draws lit it))
   unfolding rest_refusals fetch_refusals second_refusals
-  item_turned it p {n} e er =
+  item_turned it p {why} e er =
       let s = subst (Seconds g m) e eg in
-      let h : first_of (rest_refusals m (Draws lit it) (second g m)) ≡ n = rw p (stops (fetch_refusals (second g m) ++ second_refusals (word_in (second g m))) _ (λ q. s.0 (sym s.1 ∙ q)) ∙ s.1) in
-      dark m im refl er (rest_for g m (Draws lit it) n h s.0)
+      let n = refusal_number why in
+      let h : first_of (rest_refusals m (Draws lit it) (second g m)) ≡ n = rw p (stops (fetch_refusals (second g m) ++ second_refusals (word_in (second g m))) _ (λ q. some_number why (sym s ∙ q)) ∙ s) in
+      dark m im refl er (rest_for g m (Draws lit it) n h (some_number why))
 
-  module _ {v : ℕ} (e : got ≡ Taken v) where
+  module _ {v : ℕ} (e : got ≡ Ok v) where
     two_words : (it : Item) → paired it ≡ true → goes m lit (item_way m.increment it v) (item_pixels g m it v) true ≡ rest g m (Draws lit it)
     unfolding rest_refusals first_of fetch_refusals second_refusals way_refusals
     two_words it p =
@@ -263,47 +247,57 @@ module _ (mode w : ℕ) (z : first_of (first_refusals mode w) ≡ 0) where
       P (Does o) = Unit {0}
       P (Draws lit it) = Drawable lit it
 
--- ---- the step, from its first word on
-module _ (set : List ℕ) (g : Given) (m : Machine) {got : Fetched} (eg : got ≡ first g m) where
-  -- a refused step is not put off
-  refused_at : (im : List ℕ) (n : ℕ) → refusal g m ≡ n → (n ≡ 0 → ⊥) → {r : Stepped} → r ≡ told (refuses m n) → left r im ≡ stepped m im (later_step set g m)
-  refused_at im n e h er =
-      let s = step_for g m n e h in
-      dark m im refl er (s ∙ sym (refused_now (draws_letters (instruction g m)) set m (step g m) (ap (λ (t : Step). t.steps) (sym s))))
+-- ---- the first word: not fetched, refused, or the instruction
+module _ (g : Given) (m : Machine) {got : Result ℕ Unfetched} (eg : got ≡ first g m) where
+  pub first_not_fetched : {why : Unfetched} (n : Refusal) → got ≡ Err why → refusal_number n ≡ number_of why → Firsts g m (Err n)
+  first_not_fetched n e en = not_fetched n _ (sym eg ∙ e) en
 
-  pub not_fetched : (im : List ℕ) {why : Unfetched} {n : ℕ} → got ≡ Refused why → n ≡ number_in got → {r : Stepped} → r ≡ told (refuses m n) → left r im ≡ stepped m im (later_step set g m)
-  unfolding refusal refusals
-  not_fetched im {why} {n} e en er = refused_at im n (stopped eg e en _) (not_zero eg e en) er
-
-  module _ {w : ℕ} (e : got ≡ Word w) {why : ℕ} (ew : why ≡ first_of (first_refusals m.mode w)) where
+  module _ {w : ℕ} (e : got ≡ Ok w) where
     is_word : word_in (first g m) ≡ w
     is_word = ap word_in (sym eg ∙ e)
 
-    past_fetch : refusal g m ≡ first_of (first_refusals m.mode w ++ rest_refusals m (decode m.mode w) (second g m))
-    unfolding refusal refusals rest_refusals fetch_refusals
-    past_fetch =
-        passes (fetch_refusals (first g m)) _ refl (ap (λ (f : Fetched). first_of (fetch_refusals f)) (sym eg ∙ e) ∙ fetch_number (Word w))
-        ∙ ap (λ (v : ℕ). first_of (first_refusals m.mode v ++ rest_refusals m (decode m.mode v) (second g m))) is_word
+    pub first_turned : (why : Refusal) → refusal_number why ≡ first_of (first_refusals m.mode w) → Firsts g m (Err why)
+    unfolding first_of fetch_refusals
+    first_turned why t = rw (← eg, e) (sym t)
 
-    pub word_refused : (im : List ℕ) → (why ≡ 0 → ⊥) → {r : Stepped} → r ≡ told (refuses m why) → left r im ≡ stepped m im (later_step set g m)
-    word_refused im h er = refused_at im why (past_fetch ∙ stops (first_refusals m.mode w) _ (λ q. h (ew ∙ q)) ∙ sym ew) h er
+    pub first_taken : {i : Instruction} → 0 ≡ first_of (first_refusals m.mode w) → i ≡ decode m.mode w → Firsts g m (Ok i)
+    first_taken t ei = (
+      ap (λ (f : Result ℕ Unfetched). first_of (fetch_refusals f)) (sym eg ∙ e) ∙ fetch_number (Ok w),
+      ap (λ (v : ℕ). first_of (first_refusals m.mode v)) is_word ∙ sym t,
+      ei ∙ ap (decode m.mode) (sym is_word),
+    )
 
-    word_taken : why ≡ 0 → rest g m (decode m.mode w) ≡ step g m
-    unfolding step rest first_refusals
-    word_taken z =
-        let r : refusal g m ≡ first_of (rest_refusals m (decode m.mode w) (second g m)) = past_fetch ∙ passes (first_refusals m.mode w) _ refl (sym ew ∙ z) in
-        rw (r, is_word)
+pub item_drawable : (g : Given) (m : Machine) {got : Result Instruction Refusal} → Firsts g m got → {i : Instruction} → got ≡ Ok i → {lit : Bool} {it : Item} → i ≡ Draws lit it → Drawable lit it
+item_drawable g m eg e e' = let f = subst (Firsts g m) e eg in decode_drawable m.mode (word_in (first g m)) f.1 f.2 e'
 
-    module _ (z : why ≡ 0) {i : Instruction} (ei : i ≡ decode m.mode w) (im : List ℕ) where
-      taken : {i' : Instruction} → i ≡ i' → later set m i' (rest g m i') ≡ later_step set g m
-      taken e' =
-          ap (λ (j : Instruction). later set m j (rest g m j)) (sym e' ∙ ei)
-          ∙ ap (λ (t : Step). later set m (decode m.mode w) t) (word_taken z)
-          ∙ ap (λ (v : ℕ). later set m (decode m.mode v) (step g m)) (sym is_word)
+-- ---- the step, from its instruction on
+module _ (set : List ℕ) (g : Given) (m : Machine) (im : List ℕ) {got : Result Instruction Refusal} (eg : Firsts g m got) where
+  -- a refused step is not put off
+  pub step_refused : {why : Refusal} → got ≡ Err why → {r : Stepped} → r ≡ told (refuses m (refusal_number why)) → left r im ≡ stepped m im (later_step set g m)
+  unfolding refusal refusals fetch_refusals first_refusals
+  step_refused {why} e er =
+      let f = subst (Firsts g m) e eg in
+      let n = refusal_number why in
+      let h : refusal g m ≡ n = stops (fetch_refusals (first g m) ++ first_refusals m.mode (word_in (first g m))) _ (λ q. some_number why (sym f ∙ q)) ∙ f in
+      let s = step_for g m n h (some_number why) in
+      dark m im refl er (s ∙ sym (refused_now (draws_letters (instruction g m)) set m (step g m) (ap (λ (t : Step). t.steps) (sym s))))
 
-      pub done_order : {o : Order} → i ≡ Does o → (h : Given) → rest h m (Does o) ≡ rest g m (Does o) → {r : Stepped} → r ≡ told (rest h m (Does o)) → left r im ≡ stepped m im (later_step set g m)
-      done_order {o} e' h same er = dark m im (order_dark h m o) er (same ∙ sym (now set m (Does o) (rest g m (Does o)) refl) ∙ taken e')
+  module _ {i : Instruction} (e : got ≡ Ok i) where
+    taken : rest g m (instruction g m) ≡ step g m
+    unfolding step rest refusal refusals rest_refusals fetch_refusals first_refusals
+    taken =
+        let f = subst (Firsts g m) e eg in
+        let r : refusal g m ≡ first_of (rest_refusals m (instruction g m) (second g m)) = passes (fetch_refusals (first g m)) _ refl f.0 ∙ passes (first_refusals m.mode (word_in (first g m))) _ refl f.1 in
+        rw r
 
-      pub done_item : {lit : Bool} {it : Item} → i ≡ Draws lit it → {r : Stepped} {im' : List ℕ} → left r im' ≡ stepped m im (later set m (Draws lit it) (rest g m (Draws lit it)))
-          → left r im' ≡ stepped m im (later_step set g m)
-      done_item e' er = er ∙ ap (stepped m im) (taken e')
+    now_taken : {i' : Instruction} → i ≡ i' → later set m i' (rest g m i') ≡ later_step set g m
+    now_taken e' =
+        let f = subst (Firsts g m) e eg in
+        ap (λ (j : Instruction). later set m j (rest g m j)) (sym e' ∙ f.2)
+        ∙ ap (λ (t : Step). later set m (instruction g m) t) taken
+
+    pub done_order : {o : Order} → i ≡ Does o → (h : Given) → rest h m (Does o) ≡ rest g m (Does o) → {r : Stepped} → r ≡ told (rest h m (Does o)) → left r im ≡ stepped m im (later_step set g m)
+    done_order {o} e' h same er = dark m im (order_dark h m o) er (same ∙ sym (now set m (Does o) (rest g m (Does o)) refl) ∙ now_taken e')
+
+    pub done_item : {lit : Bool} {it : Item} → i ≡ Draws lit it → {r : Stepped} {im' : List ℕ} → left r im' ≡ stepped m im (later set m (Draws lit it) (rest g m (Draws lit it))) → left r im' ≡ stepped m im (later_step set g m)
+    done_item e' er = er ∙ ap (stepped m im) (now_taken e')

@@ -1,12 +1,12 @@
 -- The rest of a step, once its first word is there and is not refused: the refusals that are left, in their order, or what the instruction does.
-use Rattle.std.specs.Prelude.{ℕ, Bool, true, false, List, [], ◌∷◌, ◌≡◌, eqb}
+use Rattle.std.specs.Prelude.{ℕ, Result, Bool, true, false, List, [], ◌∷◌, ◌≡◌, eqb}
 use Rattle.definition.specs.Choice.{pick, Test, first_of, joined, only_if}
 use Rattle.definition.specs.File.{word_in, fetch_refusals}
 use Rattle.definition.specs.Words.{is_paired, has_second, is_code, second_refusals}
 use Rattle.definition.specs.Machine.{in_range, next, with_counter}
 use Rattle.definition.specs.Step.{Given, second, instruction, way_of, way_refusals, Step, completes, refuses, step}
 use Rattle.definition.specs.declared.Machine.{Machine}
-use Rattle.definition.specs.declared.Fetched.{Fetched}
+use Rattle.definition.specs.declared.Unfetched.{Unfetched}
 use Rattle.definition.specs.declared.Item.{Item}
 use Rattle.definition.specs.declared.Item.TheVariants.{ShortVector, LongVector, AbsolutePoint, GraphX, GraphY, RelativePoint, Characters}
 use Rattle.definition.specs.declared.Instruction.{Instruction}
@@ -24,7 +24,7 @@ Drawable lit (GraphY y) = in_range y ≡ true
 Drawable lit (RelativePoint dx dy) = Unit {0}
 Drawable lit (Characters first second) = (lit ≡ true) × (is_code first ≡ true) × (is_code second ≡ true)
 
-unfoldable pub rest_refusals : Machine → Instruction → Fetched → List Test
+unfoldable pub rest_refusals : Machine → Instruction → Result ℕ Unfetched → List Test
 rest_refusals m i more =
     joined
     (only_if (has_second i) (fetch_refusals more)

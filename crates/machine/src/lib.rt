@@ -1,25 +1,26 @@
-// The step: one instruction, from its first fetch to the machine, the counts and the image that it leaves.
+// The step: one instruction, from its first fetch to the machine, the counts and the image that it leaves. A fetch is taken apart by let-else, and not by `?`:
+// document 01 names the form (docs/DECISIONS.md, "Forms").
 #![tactic(auto)]
 
-ghost use Rattle.std.specs.Prelude.{◌≡◌, true, length};
-ghost use Rattle.definition.specs.Image.{image_bytes, left};
-ghost use Rattle.definition.specs.Machine.{in_range, ranged};
+ghost use Rattle.std.specs.Prelude.{◌≡◌, true};
+ghost use Rattle.definition.specs.Image.{left};
+ghost use Rattle.definition.specs.Machine.{in_range};
 ghost use Rattle.definition.specs.Step.{second};
-ghost use Rattle.definition.specs.Characters.{chosen};
 ghost use Rattle.definition.specs.Calls.{lending, plain, given};
 ghost use Rattle.definition.specs.declared.Order.TheVariants.{Jump};
 ghost use Rattle.definition.specs.declared.Item.TheVariants.{LongVector, AbsolutePoint};
 ghost use Rattle.definition.specs.declared.Instruction.TheVariants.{Does, Draws};
-ghost use Rattle.cells.specs.Cell.{Serves};
+ghost use Rattle.cells.specs.Lent.{lent};
 ghost use Rattle.outcome.specs.Outcome.{told, stepped};
 ghost use Rattle.machine.specs.Rest.{Drawable, rest, later, later_step, passed_by};
-ghost use Rattle.machine.specs.Seconds.{Seconds};
+ghost use Rattle.machine.specs.Fetches.{Firsts, Seconds};
 
-use definition::{Fetched, Instruction, Item, Machine, Order, Units};
-use outcome::Stepped;
+use cells::{Code, SET};
+use definition::{Instruction, Item, Machine, Order, Refusal, Unfetched, Units};
+use outcome::{Ranged, Stepped};
 
 // What stands after the word at the counter.
-fn next_word(file: &[u16], m: Machine) -> Fetched
+fn next_word(file: &[u16], m: Machine) -> Result<u16, Unfetched>
     ensures { result ≡ second (given (plain file.now)) m }
 {
     file::fetch(file, outcome::next(m.counter))
@@ -30,8 +31,8 @@ fn jump(file: &[u16], m: Machine) -> Stepped
     ensures { result ≡ told (rest (given (plain file.now)) m (Does Jump)) }
 {
     let got = next_word(file, m);
-    let Fetched::Word(target) = got else {
-        return outcome::refused(m, file::number_in(got));
+    let Ok(target) = got else {
+        return outcome::refused_for(m, Refusal::from(got.unwrap_err()));
     };
     let mut n = m;
     n.counter = target;
@@ -60,58 +61,63 @@ fn does(file: &[u16], m: Machine, order: Order) -> Stepped
     }
 }
 
-// The second word of a long vector or an absolute point: one that is taken, or the number that the step is refused with.
-#[derive(Clone, Copy)]
-enum Second {
-    Taken(u16),
-    Turned(u8),
-}
-
-fn second_word(file: &[u16], m: Machine) -> Second
+// The second word of a long vector or an absolute point, or what the step is refused for.
+fn second_word(file: &[u16], m: Machine) -> Result<u16, Refusal>
     ensures { Seconds (given (plain file.now)) m result }
 {
     let got = next_word(file, m);
-    let Fetched::Word(word) = got else {
-        return Second::Turned(file::number_in(got));
+    let Ok(word) = got else {
+        return Err(Refusal::from(got.unwrap_err()));
     };
-    let why = words::second_refusal(word);
-    if why != 0 {
-        return Second::Turned(why);
-    }
-    Second::Taken(word)
+    words::second_refusal(word)?;
+    Ok(word)
 }
 
-fn long_vector(file: &[u16], m: Machine, image: &mut [u8], lit: bool, dx: Units) -> Stepped
-    requires { (length image.old ≡ image_bytes) × (ranged m ≡ true) }
+// A long vector, once its second word is there.
+fn long_vector(
+    file: &[u16],
+    m: Ranged,
+    image: &mut [u8; image::BYTES],
+    lit: bool,
+    dx: Units,
+) -> Stepped
     ensures { left result image.new ≡ stepped m image.old (rest (given (plain file.now)) m (Draws lit (LongVector dx))) }
 {
-    match second_word(file, m) {
-        Second::Taken(word) => items::vector_by(m, image, lit, dx, words::long(word), true),
-        Second::Turned(why) => outcome::refused(m, why),
+    let here = m.machine;
+    match second_word(file, here) {
+        Ok(word) => items::vector_by(m, image, lit, dx, words::long(word), true),
+        Err(why) => outcome::refused_for(here, why),
     }
 }
 
-fn absolute_point(file: &[u16], m: Machine, image: &mut [u8], lit: bool, x: Units) -> Stepped
-    requires { (length image.old ≡ image_bytes) × (ranged m ≡ true) × (in_range x ≡ true) }
+// And an absolute point. The two go on by other items, and so are no one function.
+fn absolute_point(
+    file: &[u16],
+    m: Ranged,
+    image: &mut [u8; image::BYTES],
+    lit: bool,
+    x: Units,
+) -> Stepped
+    requires { in_range x ≡ true }
     ensures { left result image.new ≡ stepped m image.old (rest (given (plain file.now)) m (Draws lit (AbsolutePoint x))) }
 {
-    match second_word(file, m) {
-        Second::Taken(word) => items::absolute_point(m, image, lit, x, words::coordinate(word)),
-        Second::Turned(why) => outcome::refused(m, why),
+    let here = m.machine;
+    match second_word(file, here) {
+        Ok(word) => items::absolute_point(m, image, lit, x, words::coordinate(word)),
+        Err(why) => outcome::refused_for(here, why),
     }
 }
 
-fn draws<'a>(
+fn draws(
     file: &[u16],
-    m: Machine,
-    image: &mut [u8],
-    lent: &'a [u8],
-    built: &'a [u8],
+    m: Ranged,
+    image: &mut [u8; image::BYTES],
+    set: Option<&[u8; SET]>,
     lit: bool,
     item: Item,
 ) -> Stepped
-    requires { (length image.old ≡ image_bytes) × (ranged m ≡ true) × Serves lent.now built.now × Drawable lit item }
-    ensures { left result image.new ≡ stepped m image.old (later (chosen lent.now built.now) m (Draws lit item) (rest (given (lending file.now lent.now)) m (Draws lit item))) }
+    requires { Drawable lit item }
+    ensures { left result image.new ≡ stepped m image.old (later (lent set.entry) m (Draws lit item) (rest (given (lending file.now (lent set.entry))) m (Draws lit item))) }
 {
     match item {
         Item::ShortVector { x, y } => items::vector_by(m, image, lit, x, y, false),
@@ -121,33 +127,41 @@ fn draws<'a>(
         Item::GraphY { y } => items::graph_y(m, image, lit, y),
         Item::RelativePoint { x, y } => items::relative_point(m, image, lit, x, y),
         Item::Characters { first, second } => letters::characters(
-            m, image, lent, built, first, second,
+            m,
+            image,
+            set,
+            Code { value: first },
+            Code { value: second },
         ),
     }
 }
 
-// What refuses it, in order: 21 to 23 for the first word, 24, 25 or 32, 22 or 23 for the second, 26, 27. The lent set serves, or where it is empty the built-in
-// one. While both are empty, a step that would draw characters is put off.
-pub fn step<'a>(
-    file: &[u16],
-    m: Machine,
-    image: &mut [u8],
-    lent: &'a [u8],
-    built: &'a [u8],
-) -> Stepped
-    requires { (length image.old ≡ image_bytes) × (ranged m ≡ true) × Serves lent.now built.now }
-    ensures { left result image.new ≡ stepped m image.old (later_step (chosen lent.now built.now) (given (lending file.now lent.now)) m) }
+// The instruction at the counter, or what its first word is refused for.
+fn instruction(file: &[u16], m: Machine) -> Result<Instruction, Refusal>
+    ensures { Firsts (given (plain file.now)) m result }
 {
     let got = file::fetch(file, m.counter);
-    let Fetched::Word(word) = got else {
-        return outcome::refused(m, file::number_in(got));
+    let Ok(word) = got else {
+        return Err(Refusal::from(got.unwrap_err()));
     };
-    let refusal = words::first_refusal(m.mode, word);
-    if refusal != 0 {
-        return outcome::refused(m, refusal);
-    }
-    match words::decode(m.mode, word) {
-        Instruction::Does(order) => does(file, m, order),
-        Instruction::Draws { lit, item } => draws(file, m, image, lent, built, lit, item),
+    words::first_refusal(m.mode, word)?;
+    Ok(words::decode(m.mode, word))
+}
+
+// What refuses it, in order: 21 to 23 for the first word, 24, 25 or 32, 22 or 23 for the second, 26, 27. While there is no set, a step that would
+// draw characters is put off.
+pub fn step(
+    file: &[u16],
+    m: Ranged,
+    image: &mut [u8; image::BYTES],
+    set: Option<&[u8; SET]>,
+) -> Stepped
+    ensures { left result image.new ≡ stepped m image.old (later_step (lent set.entry) (given (lending file.now (lent set.entry))) m) }
+{
+    let here = m.machine;
+    match instruction(file, here) {
+        Ok(Instruction::Does(order)) => does(file, here, order),
+        Ok(Instruction::Draws { lit, item }) => draws(file, m, image, set, lit, item),
+        Err(why) => outcome::refused_for(here, why),
     }
 }

@@ -2,11 +2,12 @@
 #![tactic(auto)]
 
 ghost use Rattle.std.specs.Prelude.{◌≡◌};
-ghost use Rattle.numbers.specs.Numbers.{number, numbers_of, machine_of, flags, taken, given_back, ran_of, interface};
+ghost use Rattle.numbers.specs.Numbers.{numbers_of, machine_of, flags, taken, given_back, ran_of, interface};
 
 use definition::{Machine, Ran, Units};
 
-// In an order that leaves no gap between two fields. A flag that is neither 0 nor 1 is out of range.
+// Numbers all through, as C may give any byte for a flag, and has neither Option nor Result: here, in the three types below and in the answers of host and
+// host_c. The fields are in an order that leaves no gap between two. A flag that is neither 0 nor 1 is out of range.
 #[repr(C)]
 #[derive(Clone, Copy)]
 pub struct HostMachine {
@@ -48,33 +49,25 @@ pub struct HostRead {
 // No pixel value.
 const SPOILT: u8 = 255;
 
-fn number(flag: bool) -> u8
-    ensures { result ≡ number flag }
-{
-    if flag {
-        return 1;
-    }
-    0
-}
+impl From<Machine> for HostMachine {
+    ghost from_gives = { λ m numbers. numbers ≡ numbers_of m };
 
-pub fn numbers_of(m: Machine) -> HostMachine
-    ensures { result ≡ numbers_of m }
-{
-    let write = number(m.write);
-    let latch = number(m.latch);
-    HostMachine {
-        x: m.x.0,
-        y: m.y.0,
-        counter: m.counter,
-        mode: m.mode,
-        value: m.value,
-        write,
-        latch,
-        increment: m.increment,
-        status: m.status,
+    fn from(m: Machine) -> HostMachine {
+        HostMachine {
+            x: m.x.0,
+            y: m.y.0,
+            counter: m.counter,
+            mode: m.mode,
+            value: m.value,
+            write: u8::from(m.write),
+            latch: u8::from(m.latch),
+            increment: m.increment,
+            status: m.status,
+        }
     }
 }
 
+// No From: where a flag is neither 0 nor 1, this takes it for off and is no conversion.
 fn machine_of(m: HostMachine) -> Machine
     ensures { result ≡ machine_of m }
 {
@@ -91,49 +84,49 @@ fn machine_of(m: HostMachine) -> Machine
     }
 }
 
+#[tactic(auto, unfolding(crate::specs::Numbers::flags))]
 fn flags(m: HostMachine) -> bool
     ensures { result ≡ flags m }
 {
-    if 1 < m.write {
-        return false;
-    }
-    if 1 < m.latch {
-        return false;
-    }
-    true
+    m.write <= 1 && m.latch <= 1
 }
 
 // The machine that a call works on. Where a flag is out of range its pixel value is so too: the call answers what comes before 16, or 16.
+#[tactic(auto, unfolding(crate::specs::Numbers::taken))]
 pub fn taken(m: HostMachine) -> Machine
     ensures { result ≡ taken m }
 {
-    let mut n = machine_of(m);
-    if !flags(m) {
-        n.value = SPOILT;
+    let n = machine_of(m);
+    if flags(m) {
+        return n;
     }
-    n
+    Machine { value: SPOILT, ..n }
 }
 
 // What a call left of the machine that it worked on. One with a flag out of range is refused: it gets back the value and the flags that it came with.
+#[tactic(auto, unfolding(crate::specs::Numbers::given_back))]
 pub fn given_back(m: HostMachine, n: Machine) -> HostMachine
     ensures { result ≡ given_back m n }
 {
-    let mut k = numbers_of(n);
-    if !flags(m) {
-        k.value = m.value;
-        k.write = m.write;
-        k.latch = m.latch;
+    let k = HostMachine::from(n);
+    if flags(m) {
+        return k;
     }
-    k
+    HostMachine {
+        value: m.value,
+        write: m.write,
+        latch: m.latch,
+        ..k
+    }
 }
 
 // What a run or a step answered, in numbers.
+#[tactic(auto, unfolding(crate::specs::Numbers::ran_of))]
 pub fn ran_of(m: HostMachine, ran: Ran) -> HostRan
     ensures { result ≡ ran_of m ran }
 {
-    let machine = given_back(m, ran.machine);
     HostRan {
-        machine,
+        machine: given_back(m, ran.machine),
         steps: ran.counts.steps,
         words: ran.counts.words,
         stores: ran.counts.stores,

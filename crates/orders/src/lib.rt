@@ -2,61 +2,52 @@
 #![tactic(auto)]
 
 ghost use Rattle.std.specs.Prelude.{◌≡◌};
-ghost use Rattle.definition.specs.Choice.{pick};
-ghost use Rattle.definition.specs.Machine.{with_latch};
 ghost use Rattle.definition.specs.Step.{ordered};
 ghost use Rattle.definition.specs.declared.Order.TheVariants.{SetMode, StatusA, Increment, StatusC};
 
 use definition::{IncrementBits, Machine, ModeBits, StopBits, WriteBits};
 
-pub fn set_mode(m: Machine, bits: ModeBits) -> Machine
+#[tactic(auto, unfolding(definition::specs::Step::ordered))]
+pub fn set_mode(mut m: Machine, bits: ModeBits) -> Machine
     ensures { result ≡ ordered m (SetMode bits) }
 {
-    let mut n = m;
-    n.mode = bits.mode;
+    m.mode = bits.mode;
     if bits.sets {
-        n.value = bits.value;
+        m.value = bits.value;
     }
-    n
-}
-
-fn load_latch(m: Machine, bits: StopBits) -> Machine
-    ensures { result ≡ with_latch m (pick bits.loads bits.latch m.latch) }
-{
-    let mut n = m;
-    if bits.loads {
-        n.latch = bits.latch;
-    }
-    n
+    m
 }
 
 // A stop goes by the latch as it stands after the load.
-pub fn status_a(m: Machine, bits: StopBits) -> Machine
+#[tactic(auto, unfolding(definition::specs::Step::ordered))]
+pub fn status_a(mut m: Machine, bits: StopBits) -> Machine
     ensures { result ≡ ordered m (StatusA bits) }
 {
-    let mut n = load_latch(m, bits);
-    if bits.stops {
-        n.status = if n.latch { 2 } else { 1 };
+    if bits.loads {
+        m.latch = bits.latch;
     }
-    n
+    if bits.stops {
+        m.status = if m.latch { 2 } else { 1 };
+    }
+    m
 }
 
-pub fn set_increment(m: Machine, bits: IncrementBits) -> Machine
+#[tactic(auto, unfolding(definition::specs::Step::ordered))]
+pub fn set_increment(mut m: Machine, bits: IncrementBits) -> Machine
     ensures { result ≡ ordered m (Increment bits) }
 {
-    let mut n = m;
     if bits.sets {
-        n.increment = bits.increment;
+        m.increment = bits.increment;
     }
-    n
+    m
 }
 
-pub fn status_c(m: Machine, bits: WriteBits) -> Machine
+#[tactic(auto, unfolding(definition::specs::Step::ordered))]
+pub fn status_c(mut m: Machine, bits: WriteBits) -> Machine
     ensures { result ≡ ordered m (StatusC bits) }
 {
-    let mut n = m;
     if bits.channel == 0 {
-        n.write = bits.write;
+        m.write = bits.write;
     }
-    n
+    m
 }

@@ -1,15 +1,19 @@
 // How a step ends: refused, put off, or completed with the counter past its words.
 #![tactic(auto)]
 
+mod ranged;
+
 ghost use Rattle.std.specs.Prelude.{◌≡◌};
+ghost use Rattle.definition.specs.Refusal.{refusal_number};
 ghost use Rattle.definition.specs.Machine.{next};
 ghost use Rattle.definition.specs.Step.{refuses};
-ghost use Rattle.outcome.specs.Outcome.{told, completed, words_if, arrived};
+ghost use Rattle.outcome.specs.Outcome.{told, no_set, completed, words_if, arrived};
 
-use definition::{Counts, Machine, Units};
+use definition::{Counts, Machine, Refusal, Units};
+pub use ranged::Ranged;
 
 // The status of a step that was put off: it would draw characters, and no set is there yet. `run` takes the step again with the built-in set, so that no
-// caller sees this status.
+// caller sees this status. A number and no case of an enum: `put_off` promises it as the status, as `letters::characters` and `machine::step` do.
 pub const NO_SET: u8 = 254;
 
 // What a step answers: the machine that it leaves, and what it counts.
@@ -23,23 +27,31 @@ pub struct Stepped {
 pub fn next(counter: u16) -> u16
     ensures { result ≡ next counter }
 {
-    std::num::wrapping_add_u16(counter, 2)
+    counter.wrapping_add(2)
 }
 
-// A refusal sets the status and nothing else, and is not counted.
-pub fn refused(m: Machine, why: u8) -> Stepped
+// A step that does not complete sets the status and nothing else, and is not counted.
+pub fn refused(mut m: Machine, why: u8) -> Stepped
     ensures { result ≡ told (refuses m why) }
 {
-    let mut n = m;
-    n.status = why;
+    m.status = why;
     Stepped {
-        machine: n,
-        counts: Counts {
-            steps: 0,
-            words: 0,
-            stores: 0,
-        },
+        machine: m,
+        counts: Counts::NOTHING,
     }
+}
+
+// With the number of a refusal.
+pub fn refused_for(m: Machine, why: Refusal) -> Stepped
+    ensures { result ≡ told (refuses m (refusal_number why)) }
+{
+    refused(m, u8::from(why))
+}
+
+pub fn put_off(m: Machine) -> Stepped
+    ensures { result ≡ told (refuses m no_set) }
+{
+    refused(m, NO_SET)
 }
 
 // A step that completes counts one step, and its words and stores.
@@ -56,17 +68,16 @@ pub fn completed(m: Machine, words: u32, stores: u32) -> Stepped
     }
 }
 
-// An item that completes: at its new position, the counter past its words.
-pub fn placed(m: Machine, second: bool, x: Units, y: Units, stores: u32) -> Stepped
+// An item that completes: at its new position, the counter past its words. X and Y are two, as the machine has them.
+pub fn placed(mut m: Machine, second: bool, x: Units, y: Units, stores: u32) -> Stepped
     ensures { result ≡ completed (arrived m second x y) (words_if second) stores }
 {
-    let mut n = m;
-    n.x = x;
-    n.y = y;
-    n.counter = next(m.counter);
+    m.x = x;
+    m.y = y;
+    m.counter = next(m.counter);
     if second {
-        n.counter = next(n.counter);
-        return completed(n, 2, stores);
+        m.counter = next(m.counter);
+        return completed(m, 2, stores);
     }
-    completed(n, 1, stores)
+    completed(m, 1, stores)
 }

@@ -24,21 +24,17 @@ ghost use Rattle.std.specs.Prelude.{◌<◌};
 ghost use Rattle.vector.specs.Raised.{Reached, Reaches};
 
 use definition::{Ink, Pixel, Pixels, Units};
+use image::Brush;
+use std::io;
 use std::io::{Input, Read};
 
-// ---- one record; false where it was not written
-fn write(rt: &impl Print, record: &[u8]) -> bool {
-    rt.write_all(record).is_ok()
-}
-
-fn write_long(rt: &impl Print, v: u32) -> bool {
-    let mut record = [0u8; 4];
-    records::put_long(&mut record, 0, v);
-    write(rt, &record)
+// ---- one record
+fn write_long(rt: &impl Print, v: u32) -> io::Result<()> {
+    rt.write_all(&v.to_le_bytes())
 }
 
 // ---- units
-fn units_case(rt: &impl Print, head: &[u8]) -> bool {
+fn units_case(rt: &impl Print, head: &[u8]) -> io::Result<()> {
     let mut record = [0u8; 24];
     let x = records::signed_at(head, 4);
     let y = records::signed_at(head, 8);
@@ -56,135 +52,86 @@ fn units_case(rt: &impl Print, head: &[u8]) -> bool {
         units::moved_to(Units(x), Units(records::signed_at(head, 12))),
     );
     accounts::put_index(&mut record, units::index_in(512, p.y));
-    write(rt, &record)
+    rt.write_all(&record)
 }
 
 // ---- image
-fn ink_of(head: &[u8]) -> Ink
-    ensures { result.value < 4 }
-{
-    Ink {
-        value: records::byte_at(head, 2) % 4,
-    }
+fn brush_of(head: &[u8]) -> Brush {
+    let value = records::byte_at(head, 2) % 4;
+    Brush { ink: Ink { value } }
 }
 
-fn image_case(rt: &impl Print, head: &[u8], image: &mut [u8; 65536]) -> bool {
-    let ink = ink_of(head);
-    let x = (records::word_at(head, 4) % 512) as usize;
-    let y = (records::word_at(head, 6) % 512) as usize;
+fn image_case(rt: &impl Print, head: &[u8], image: &mut [u8; 65536]) -> io::Result<()> {
+    let brush = brush_of(head);
+    let x = usize::from(records::word_at(head, 4) % 512);
+    let y = usize::from(records::word_at(head, 6) % 512);
     let p = Pixel {
         x: Pixels(records::signed_at(head, 8)),
         y: Pixels(records::signed_at(head, 12)),
     };
-    let mut answer = 0;
-    match records::byte_at(head, 1) {
-        0 => {
-            answer = image::read(image, x, y) as u32;
-        }
+    let answer = match records::byte_at(head, 1) {
+        0 => u32::from(image::read(image, x, y)),
         1 => {
-            image::store(image, x, y, ink);
+            image::store(image, x, y, brush);
+            0
         }
-        2 => {
-            answer = image::plot(image, p, ink);
-        }
+        2 => image::plot(image, p, brush),
         _ => {
             image::clear(image);
+            0
         }
-    }
+    };
     write_long(rt, answer)
 }
 
-fn look_case(rt: &impl Print, head: &[u8], image: &mut [u8; 65536]) -> bool {
+fn look_case(rt: &impl Print, head: &[u8], image: &mut [u8; 65536]) -> io::Result<()> {
     let sum = records::digest(image);
     if records::byte_at(head, 1) == 1 {
-        fill(image, records::byte_at(head, 2));
+        image.fill(records::byte_at(head, 2));
     }
     write_long(rt, sum)
 }
 
-fn fill(image: &mut [u8], b: u8) {
-    image.fill(b);
-}
-
 // ---- file
-fn file_case(
-    rt: &impl Print,
-    from: &mut impl Read,
-    head: &[u8],
-    body: &mut [u8],
-    words: &mut [u16],
-) -> bool {
-    let n = records::word_at(head, 2) as usize;
-    if body.len() < 2 * n {
-        return false;
-    }
-    if from.read_exact(&mut body[..2 * n]).is_err() {
-        return false;
-    }
-    words_of(body, words, n);
-    write_file(rt, head, words, n)
-}
-
-fn words_of(body: &[u8], words: &mut [u16], n: usize) {
-    if body.len() / 2 < n {
-        return;
-    }
-    if words.len() < n {
-        return;
-    }
-    for i in 0..n {
-        words[i] = records::word_at(body, 2 * i);
-    }
-}
-
-fn write_file(rt: &impl Print, head: &[u8], words: &[u16], n: usize) -> bool {
-    if words.len() < n {
-        return false;
-    }
-    let file = &words[0..n];
+fn file_case(rt: &impl Print, head: &[u8], file: &[u16]) -> io::Result<()> {
     let mut record = [0u8; 19];
-    let answer = file::check(file);
-    records::put(&mut record, 0, answer);
-    if answer > 0 {
-        return write(rt, &record);
+    match file::check(file) {
+        Err(why) => records::put(&mut record, 0, u8::from(why)),
+        Ok(()) => {
+            for i in 0..6 {
+                let fetched = file::fetch(file, records::word_at(head, 4 + 2 * i));
+                accounts::put_fetched(&mut record, 1 + 3 * i, fetched);
+            }
+        }
     }
-    accounts::put_fetched(&mut record, 1, file::fetch(file, records::word_at(head, 4)));
-    accounts::put_fetched(&mut record, 4, file::fetch(file, records::word_at(head, 6)));
-    accounts::put_fetched(&mut record, 7, file::fetch(file, records::word_at(head, 8)));
-    accounts::put_fetched(
-        &mut record,
-        10,
-        file::fetch(file, records::word_at(head, 10)),
-    );
-    accounts::put_fetched(
-        &mut record,
-        13,
-        file::fetch(file, records::word_at(head, 12)),
-    );
-    accounts::put_fetched(
-        &mut record,
-        16,
-        file::fetch(file, records::word_at(head, 14)),
-    );
-    write(rt, &record)
+    rt.write_all(&record)
 }
 
 // ---- words
-fn word_case(rt: &impl Print, head: &[u8]) -> bool {
+// Where each mode's account stands. A mode is a number, as `words::decode` takes any.
+const ACCOUNTS: [(usize, u8); 8] = [
+    (0, 1),
+    (13, 2),
+    (26, 3),
+    (39, 4),
+    (52, 5),
+    (65, 6),
+    (78, 255),
+    (100, 0),
+];
+
+fn word_case(rt: &impl Print, head: &[u8]) -> io::Result<()> {
     let word = records::word_at(head, 2);
     let mut record = [0u8; 113];
-    accounts::put_account(&mut record, 0, 1, word);
-    accounts::put_account(&mut record, 13, 2, word);
-    accounts::put_account(&mut record, 26, 3, word);
-    accounts::put_account(&mut record, 39, 4, word);
-    accounts::put_account(&mut record, 52, 5, word);
-    accounts::put_account(&mut record, 65, 6, word);
-    accounts::put_account(&mut record, 78, 255, word);
-    accounts::put_account(&mut record, 100, 0, word);
+    for (place, mode) in ACCOUNTS {
+        accounts::put_account(&mut record, place, mode, word);
+    }
     records::put_signed(&mut record, 91, words::long(word).0);
     records::put_signed(&mut record, 95, words::coordinate(word).0);
-    records::put(&mut record, 99, words::second_refusal(word));
-    write(rt, &record)
+    if let Err(why) = words::second_refusal(word) {
+        records::put(&mut record, 99, u8::from(why));
+    }
+    rt.write_all(&record)
 }
 
 // ---- vector
@@ -192,7 +139,7 @@ fn pixels_of(n: u16) -> Pixels
     requires { n < 4096 }
     ensures { Reached result }
 {
-    Pixels(n as i32 - 2048)
+    Pixels(i32::from(n) - 2048)
 }
 
 fn pixel_of(x: u16, y: u16) -> Pixel
@@ -204,43 +151,46 @@ fn pixel_of(x: u16, y: u16) -> Pixel
     }
 }
 
-fn vector_case(rt: &impl Print, head: &[u8], image: &mut [u8; 65536]) -> bool {
+fn vector_case(rt: &impl Print, head: &[u8], image: &mut [u8; 65536]) -> io::Result<()> {
     let a = pixel_of(records::word_at(head, 4), records::word_at(head, 6));
     let b = pixel_of(records::word_at(head, 8), records::word_at(head, 10));
-    let ink = ink_of(head);
-    write_long(rt, vector::draw(image, a, b, ink))
+    write_long(rt, vector::draw(image, a, b, brush_of(head)))
 }
 
-// ---- one case, and all; false at the end of the input, and where it is none
+// ---- one case, and all; none at the end of the input, where it is no case, and where the record was not written
+// The kind of a case is a byte of its record.
 fn one_case(
     rt: &impl Print,
     from: &mut impl Read,
     image: &mut [u8; 65536],
     body: &mut [u8; 65536],
     words: &mut [u16; 32768],
-) -> bool {
+) -> Option<()> {
     let mut head = [0u8; 16];
-    if from.read_exact(&mut head).is_err() {
-        return false;
-    }
-    match head[0] {
+    from.read_exact(&mut head).ok()?;
+    let written = match head[0] {
         1 => units_case(rt, &head),
         2 => image_case(rt, &head, image),
-        3 => file_case(rt, from, &head, body, words),
+        3 => {
+            let n = usize::from(records::word_at(&head, 2));
+            file_case(rt, &head, records::read_words(from, n, body, words)?)
+        }
         4 => word_case(rt, &head),
         5 => vector_case(rt, &head, image),
         6 => look_case(rt, &head, image),
-        _ => false,
-    }
+        _ => return None,
+    };
+    written.ok()
 }
 
+// The loop of replay, over other buffers: a program of its own, as replay is.
 fn main(rt: HostRuntime) {
     let mut from = rt.reader();
     let mut image = [0u8; 65536];
     let mut body = [0u8; 65536];
     let mut words = [0u16; 32768];
     for _ in 0..u64::MAX {
-        if !one_case(&rt, &mut from, &mut image, &mut body, &mut words) {
+        if one_case(&rt, &mut from, &mut image, &mut body, &mut words).is_none() {
             return;
         }
     }

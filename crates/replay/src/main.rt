@@ -23,9 +23,11 @@
 #![tactic(auto)]
 
 use numbers::{HostMachine, HostRan};
+use std::io;
 use std::io::{Input, Read};
 
 // ---- the case
+// Numbers, as the bytes of a case and the calls for C have them.
 fn machine_of(head: &[u8]) -> HostMachine {
     HostMachine {
         x: records::signed_at(head, 12),
@@ -41,16 +43,10 @@ fn machine_of(head: &[u8]) -> HostMachine {
 }
 
 fn fill(image: &mut [u8], seed: u32) {
-    let mut mixed: u64 = 0;
+    let mut mixed = 0u32;
     for b in image {
-        mixed = (mixed * 69069 + seed as u64) % 4294967296;
-        *b = (mixed / 16777216) as u8;
-    }
-}
-
-fn words_of(body: &[u8], words: &mut [u16]) {
-    for (i, word) in words.iter_mut().enumerate() {
-        *word = records::word_at(body, 2 * i);
+        mixed = mixed.wrapping_mul(69069).wrapping_add(seed);
+        *b = (mixed >> 24) as u8;
     }
 }
 
@@ -65,9 +61,10 @@ fn uncounted(machine: HostMachine, answer: u8) -> HostRan {
     }
 }
 
-fn called(head: &[u8], file: &[u16], image: &mut [u8], set: &[u8], digit: &mut u8) -> HostRan {
+// And the digit that was read.
+fn called(head: &[u8], file: &[u16], image: &mut [u8], set: &[u8]) -> (HostRan, u8) {
     let m = machine_of(head);
-    match records::byte_at(head, 0) {
+    let ran = match records::byte_at(head, 0) {
         1 => uncounted(m, host::roadparsnip_check(file)),
         2 => uncounted(host::roadparsnip_fresh(), 0),
         3 => started(m, records::word_at(head, 10)),
@@ -78,10 +75,10 @@ fn called(head: &[u8], file: &[u16], image: &mut [u8], set: &[u8], digit: &mut u
             let x = records::signed_at(head, 24);
             let y = records::signed_at(head, 28);
             let read = host::roadparsnip_read_pixel(image, x, y);
-            *digit = read.digit;
-            uncounted(m, read.answer)
+            return (uncounted(m, read.answer), read.digit);
         }
-    }
+    };
+    (ran, 0)
 }
 
 fn started(m: HostMachine, address: u16) -> HostRan {
@@ -91,95 +88,39 @@ fn started(m: HostMachine, address: u16) -> HostRan {
 }
 
 // ---- the line
-// A number that is not written is left out, and so is the space after it.
-fn write_number(rt: &impl Print, n: u64) {
-    let _ = print!(rt; "{n} ");
-}
-
-fn write_signed(rt: &impl Print, z: i32) {
-    let _ = print!(rt; "{z} ");
-}
-
-fn write_machine(rt: &impl Print, m: HostMachine) {
-    write_number(rt, m.counter as u64);
-    write_signed(rt, m.x);
-    write_signed(rt, m.y);
-    write_number(rt, m.mode as u64);
-    write_number(rt, m.value as u64);
-    write_number(rt, m.write as u64);
-    write_number(rt, m.latch as u64);
-    write_number(rt, m.increment as u64);
-    write_number(rt, m.status as u64);
-}
-
-// Answers whether the end of the line was written.
-fn write_line(rt: &impl Print, ran: HostRan, digit: u8, digest: u32) -> bool {
-    write_number(rt, ran.answer as u64);
-    write_number(rt, ran.steps as u64);
-    write_number(rt, ran.words as u64);
-    write_number(rt, ran.stores as u64);
+fn write_line(rt: &impl Print, ran: HostRan, digit: u8, digest: u32) -> io::Result<()> {
     let m = ran.machine;
-    write_machine(rt, m);
-    write_number(rt, digit as u64);
-    println!(rt; "{digest}").is_ok()
+    print!(rt;
+        "{} {} {} {} ",
+        ran.answer, ran.steps, ran.words, ran.stores
+    )?;
+    print!(rt; "{} {} {} ", m.counter, m.x, m.y)?;
+    print!(rt;
+        "{} {} {} {} {} {} ",
+        m.mode, m.value, m.write, m.latch, m.increment, m.status
+    )?;
+    println!(rt; "{digit} {digest}")
 }
 
-// ---- one case, and all; false at the end of the input, and where a case is cut or too large
-fn replayed(rt: &impl Print, head: &[u8], file: &[u16], image: &mut [u8], set: &mut [u8]) -> bool {
-    let mut digit = 0u8;
-    fill(image, records::long_at(head, 36));
-    fill(set, records::long_at(head, 52));
-    let ran = called(head, file, image, set, &mut digit);
-    write_line(rt, ran, digit, records::digest(image))
-}
-
-fn with_set(rt: &impl Print, head: &[u8], file: &[u16], image: &mut [u8]) -> bool {
-    let mut set = [0u8; 1024];
-    let size = records::word_at(head, 48) as usize;
-    if set.len() < size {
-        return false;
-    }
-    replayed(rt, head, file, image, &mut set[..size])
-}
-
-fn with_file(
-    rt: &impl Print,
-    from: &mut impl Read,
-    head: &[u8],
-    image: &mut [u8],
-    body: &mut [u8],
-    words: &mut [u16],
-) -> bool {
-    let size = records::long_at(head, 32) as usize;
-    if image.len() < size {
-        return false;
-    }
-    let n = records::word_at(head, 40) as usize;
-    if words.len() < n {
-        return false;
-    }
-    if body.len() < 2 * n {
-        return false;
-    }
-    if from.read_exact(&mut body[..2 * n]).is_err() {
-        return false;
-    }
-    words_of(body, &mut words[..n]);
-    with_set(rt, head, &words[..n], &mut image[..size])
-}
-
+// ---- one case, and all; none at the end of the input, where a case is cut or too large, and where a line was not written
 fn one_case(
     rt: &impl Print,
     from: &mut impl Read,
     image: &mut [u8; 65537],
     body: &mut [u8; 65536],
     words: &mut [u16; 32768],
-) -> bool {
+) -> Option<()> {
     let mut head = [0u8; 64];
-    if from.read_exact(&mut head).is_err() {
-        return false;
-    }
-    with_file(rt, from, &head, image, body, words)
+    let mut set = [0u8; 1024];
+    from.read_exact(&mut head).ok()?;
+    let image = image.get_mut(..records::long_at(&head, 32) as usize)?;
+    let n = usize::from(records::word_at(&head, 40));
+    let file = records::read_words(from, n, body, words)?;
+    let set = set.get_mut(..usize::from(records::word_at(&head, 48)))?;
+    fill(image, records::long_at(&head, 36));
+    fill(set, records::long_at(&head, 52));
+    let (ran, digit) = called(&head, file, image, set);
+    write_line(rt, ran, digit, records::digest(image)).ok()
 }
 
 fn main(rt: HostRuntime) {
@@ -188,7 +129,7 @@ fn main(rt: HostRuntime) {
     let mut body = [0u8; 65536];
     let mut words = [0u16; 32768];
     for _ in 0..u64::MAX {
-        if !one_case(&rt, &mut from, &mut image, &mut body, &mut words) {
+        if one_case(&rt, &mut from, &mut image, &mut body, &mut words).is_none() {
             return;
         }
     }

@@ -16,9 +16,8 @@ use Rattle.definition.specs.Words.{has_second, first_refusals, second_refusals}
 use Rattle.definition.specs.Machine.{is_status, ranged}
 use Rattle.definition.specs.Step.{Given, Step, second, way_refusals, refusals, refusal, instruction, refuses, step}
 use Rattle.definition.specs.Run.{counted, summed, State, begun, run}
-use Rattle.definition.specs.BuiltIn.{built_in}
-use Rattle.definition.specs.Characters.{set_bytes, chosen}
-use Rattle.definition.specs.Calls.{answered}
+use Rattle.definition.specs.Characters.{chosen}
+use Rattle.definition.specs.Calls.{lending, plain, given, answered}
 use Rattle.definition.specs.declared.Machine.{Machine}
 use Rattle.definition.specs.declared.Counts.{Counts}
 use Rattle.definition.specs.declared.Ran.{Ran}
@@ -26,7 +25,6 @@ use Rattle.definition.proofs.Plain.{either_false}
 use Rattle.definition.proofs.Exactly.{apart}
 use Rattle.definition.proofs.StepLaws.{pick_keeps, step_keeps, run_turn, run_stopped, free, ranges, step_ranged}
 use Rattle.demands.proofs.Runs.{summed_nothing, run_plus}
-use Rattle.cells.specs.Cell.{Serves}
 use Rattle.outcome.specs.Outcome.{told, stepped, no_set}
 use Rattle.outcome.specs.declared.Stepped.{Stepped}
 use Rattle.outcome.proofs.PutOffLaws.{now_or_later}
@@ -215,13 +213,13 @@ module _ (set : List ℕ) (g : Given) (b : ℕ) (m : Machine) (im : List ℕ) (h
           inl (sym (run_stopped g (b - c.steps) (state (woken here) im' c) (λ s. h (ap (λ (j : Machine). j.status) (sym k) ∙ s))))
 
 -- ---- the two parts of a run that was put off
-pub serves_lent : (set : List ℕ) → length (chosen set built_in) ≡ set_bytes → Serves set set
+-- where no set is lent, the built-in one serves
+none_lent : (f set : List ℕ) → length set ≡ 0 → given (plain f) ≡ given (lending f set)
 unfolding chosen
-serves_lent set l = (l, go (eqb (length set) 0) refl)
-  where
-    go : (t : Bool) → eqb (length set) 0 ≡ t → (length (pick t set set) ≡ 0 → ⊥) → pick t set set ≡ pick t built_in set
-    go true e h = absurd (h (eqb-true _ _ e))
-    go false e h = refl
+none_lent f set z = rw (eq-eqb _ _ z)
+
+pub resumed : (f set : List ℕ) (b : ℕ) (s : State) {ran : Left Ran} {whole : State} → length set ≡ 0 → ran ≡ answered (run (given (plain f)) b s) → run (given (lending f set)) b s ≡ whole → ran ≡ answered whole
+resumed f set b s z e w = e ∙ ap (λ (g : Given). answered (run g b s)) (none_lent f set z) ∙ ap answered w
 
 module _ (g : Given) (b : ℕ) (m : Machine) (im : List ℕ) (t : Counts) {r : Ran} {im' : List ℕ} where
   -- what came before is added to what is counted from here

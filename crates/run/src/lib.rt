@@ -1,98 +1,90 @@
-// The run: one step after another, while there is budget left and the machine runs. The built-in set is laid out at most once in a run, at the first step
+// The run: one step after another, while there is budget left and the machine runs. Where no set is lent, the built-in one serves from the first step on
 // that draws with it.
 #![tactic(auto)]
 
-ghost use Rattle.std.specs.Prelude.{◌≡◌, true, ◌-◌, ◌≤◌, length};
-ghost use Rattle.definition.specs.Image.{image_bytes, left};
+ghost use Rattle.std.specs.Prelude.{◌≡◌, true, ◌-◌, ◌≤◌};
+ghost use Rattle.definition.specs.Image.{left};
 ghost use Rattle.definition.specs.Machine.{ranged};
 ghost use Rattle.definition.specs.Run.{begun, run};
-ghost use Rattle.definition.specs.BuiltIn.{built_in};
-ghost use Rattle.definition.specs.Characters.{set_bytes, chosen};
-ghost use Rattle.definition.specs.Calls.{lending, given, answered};
-ghost use Rattle.cells.specs.Cell.{Serves};
+ghost use Rattle.definition.specs.Calls.{lending, plain, given, answered};
+ghost use Rattle.cells.specs.Lent.{lent};
 ghost use Rattle.run.specs.Walked.{Within, awake, state, Walked};
 
-use definition::{Counts, Machine, Ran};
+use cells::SET;
+use definition::{Counts, Ran};
+use outcome::Ranged;
 
 // The run, or as much of it as comes before a step that was put off. Then the status is NO_SET.
-fn walk<'a>(
+fn walk(
     file: &[u16],
-    m: Machine,
-    image: &mut [u8],
-    lent: &'a [u8],
-    built: &'a [u8],
+    m: Ranged,
+    image: &mut [u8; image::BYTES],
+    set: Option<&[u8; SET]>,
     budget: u32,
 ) -> Ran
-    requires { (length image.old ≡ image_bytes) × (ranged m ≡ true) × (budget ≤ 1000000) × Serves lent.now built.now }
-    ensures { Walked (chosen lent.now built.now) (given (lending file.now lent.now)) budget m image.old result image.new }
+    requires { budget ≤ 1000000 }
+    ensures { Walked (lent set.entry) (given (lending file.now (lent set.entry))) budget m image.old result image.new }
 {
-    let mut here = m;
-    let mut steps = 0;
-    let mut words = 0;
-    let mut stores = 0;
-    // A step that is refused or put off is not counted; its status ends the loop.
-    while steps < budget {
+    let mut here = m.machine;
+    let mut counts = Counts::NOTHING;
+    // A step that is refused or put off is not counted; its status ends the loop. No `for`: it would count turns beside the steps, which are counted anyway.
+    while counts.steps < budget {
         if here.status != 0 {
             break;
         }
-        let taken = machine::step(file, here, image, lent, built);
+        let taken = machine::step(file, Ranged { machine: here }, image, set);
         here = taken.machine;
-        steps += taken.counts.steps;
-        words += taken.counts.words;
-        stores += taken.counts.stores;
+        counts = counts + taken.counts;
     }
     Ran {
         answer: here.status,
-        counts: Counts {
-            steps,
-            words,
-            stores,
-        },
+        counts,
         machine: here,
     }
 }
 
-// The rest of a run, from the step that was put off, with the built-in set laid out.
-fn go_on(file: &[u16], first: Ran, image: &mut [u8], set: &[u8], budget: u32) -> Ran
-    requires { (length image.old ≡ image_bytes) × (ranged (awake first.machine) ≡ true) × (budget ≤ 1000000) × (length (chosen set.now built_in) ≡ set_bytes) × Within budget first.counts }
-    ensures { left result image.new ≡ answered (run (given (lending file.now set.now)) (budget - first.counts.steps) (state (awake first.machine) image.old first.counts)) }
+// The rest of a run, from the step that was put off, with the built-in set.
+fn go_on(file: &[u16], first: Ran, image: &mut [u8; image::BYTES], budget: u32) -> Ran
+    requires { (ranged (awake first.machine) ≡ true) × (budget ≤ 1000000) × Within budget first.counts }
+    ensures { left result image.new ≡ answered (run (given (plain file.now)) (budget - first.counts.steps) (state (awake first.machine) image.old first.counts)) }
 {
-    let built = cells::BUILT_IN;
     let mut here = first.machine;
     here.status = 0;
-    let rest = walk(file, here, image, set, &built, budget - first.counts.steps);
-    let machine = rest.machine;
+    let left = budget - first.counts.steps;
+    let rest = walk(
+        file,
+        Ranged { machine: here },
+        image,
+        Some(&cells::BUILT_IN),
+        left,
+    );
     Ran {
-        answer: rest.answer,
-        counts: Counts {
-            steps: first.counts.steps + rest.counts.steps,
-            words: first.counts.words + rest.counts.words,
-            stores: first.counts.stores + rest.counts.stores,
-        },
-        machine,
+        counts: first.counts + rest.counts,
+        ..rest
     }
 }
 
-// A run of budget 1. As `go_on` has two callers, the compiler leaves it a function of its own: in their place, every run would take its stack
-// (docs/PERFORMANCE.md).
-pub fn one(file: &[u16], m: Machine, image: &mut [u8], set: &[u8]) -> Ran
-    requires { (length image.old ≡ image_bytes) × (ranged m ≡ true) × (length (chosen set.now built_in) ≡ set_bytes) }
-    ensures { left result image.new ≡ answered (run (given (lending file.now set.now)) 1 (begun m image.old)) }
+// The budget is asked for and is no type: one would be built in as many places as it is asked for.
+pub fn run(
+    file: &[u16],
+    m: Ranged,
+    image: &mut [u8; image::BYTES],
+    budget: u32,
+    set: Option<&[u8; SET]>,
+) -> Ran
+    requires { budget ≤ 1000000 }
+    ensures { left result image.new ≡ answered (run (given (lending file.now (lent set.entry))) budget (begun m image.old)) }
 {
-    let first = walk(file, m, image, set, set, 1);
+    let first = walk(file, m, image, set, budget);
     if first.answer == outcome::NO_SET {
-        return go_on(file, first, image, set, 1);
+        return go_on(file, first, image, budget);
     }
     first
 }
 
-pub fn run(file: &[u16], m: Machine, image: &mut [u8], budget: u32, set: &[u8]) -> Ran
-    requires { (length image.old ≡ image_bytes) × (ranged m ≡ true) × (budget ≤ 1000000) × (length (chosen set.now built_in) ≡ set_bytes) }
-    ensures { left result image.new ≡ answered (run (given (lending file.now set.now)) budget (begun m image.old)) }
+// A run of budget 1.
+pub fn one(file: &[u16], m: Ranged, image: &mut [u8; image::BYTES], set: Option<&[u8; SET]>) -> Ran
+    ensures { left result image.new ≡ answered (run (given (lending file.now (lent set.entry))) 1 (begun m image.old)) }
 {
-    let first = walk(file, m, image, set, set, budget);
-    if first.answer == outcome::NO_SET {
-        return go_on(file, first, image, set, budget);
-    }
-    first
+    run(file, m, image, 1, set)
 }

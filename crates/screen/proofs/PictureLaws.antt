@@ -1,7 +1,7 @@
 -- A picture that is put together from the front: a digit after others of its row, and a row after those above it.
 use Prim.Native.Nat.{ℕ, suc, ◌+◌, ◌-◌, ◌*◌, ◌<◌, ◌≤◌}
-use mathlib.Core.List.{List, [], ◌∷◌, ◌++◌, append-nil, append_assoc}
-use mathlib.Core.Path.{◌≡◌, refl, sym, ap, ◌∙◌}
+use mathlib.Core.List.{List, ◌++◌, append-nil, append_assoc}
+use mathlib.Core.Path.{◌≡◌, refl, ap, ◌∙◌}
 use native.Mathlib.Numerals.{add-one}
 use native.Mathlib.Omega.{arith}
 use lib.ListN.{length, set, take}
@@ -9,23 +9,11 @@ use lib.Seq.{take_all, take_at, take-suc-set}
 use Rattle.definition.specs.Image.{square, digit_at}
 use Rattle.screen.specs.Screen.{header, row, rows, pgm}
 
--- x digits of row y are there, after what stood before them
-abbrev pub Begun : List ℕ → ℕ → List ℕ → ℕ → List ℕ → ℕ → Type 0
-Begun before at image y after x = take (at + x) after ≡ take at before ++ row image y x
-
-module _ (before : List ℕ) (at : ℕ) (image : List ℕ) (y : ℕ) where
-  pub no_digit : Begun before at image y before 0
-  unfolding row
-  no_digit =
-      let e : at + 0 ≡ at = omega arith in
-      rw e (sym (append-nil (take at before)))
-
-  pub one_digit : (after : List ℕ) (x : ℕ) {v : ℕ} → at + x < length after → v ≡ digit_at square image x y → Begun before at image y after x
-      → Begun before at image y (set after (at + x) v) (x + 1)
-  unfolding row
-  one_digit after x {v} h e so =
-      let next : at + (x + 1) ≡ suc (at + x) = omega arith in
-      rw (next, take-suc-set after (at + x) v h, so, add-one x, e) (append_assoc (take at before) (row image y x) (digit_at square image x y ∷ []))
+-- a digit after the first x of row y
+pub one_digit : (image : List ℕ) (y : ℕ) (digits : List ℕ) (x : ℕ) {v : ℕ} → x < length digits → v ≡ digit_at square image x y → take x digits ≡ row image y x
+    → take (x + 1) (set digits x v) ≡ row image y (x + 1)
+unfolding row
+one_digit image y digits x {v} h e so = rw (add-one x, take-suc-set digits x v h, so, e) refl
 
 -- what is there up to a place, and the rows below y, are the whole
 module _ (image picture whole : List ℕ) where

@@ -2,12 +2,14 @@
 use Prim.Native.Nat.{ℕ, ◌%◌, ◌≤◌, ◌<◌}
 use mathlib.Core.Bool.{Bool, true, false, not, ◌||◌}
 use mathlib.Core.List.{List}
-use mathlib.Core.Path.{◌≡◌, refl, ap}
+use mathlib.Core.Path.{◌≡◌, refl, ap, ◌∙◌}
 use lib.Dec.{eqb}
 use lib.ListN.{length}
 use borrow.Author.Tests.{lt-ltb, le-ltb, eq-eqb, ne_eqb}
 use Rattle.definition.specs.Choice.{first_of}
-use Rattle.definition.specs.Image.{blank, Left, left}
+use Rattle.definition.specs.Image.{image_bytes, blank, Left, left}
+use Rattle.image.specs.Drawn.{cleared}
+use Rattle.image.proofs.StoredLaws.{cleared_is_blank}
 use Rattle.definition.specs.Machine.{fresh}
 use Rattle.definition.specs.Calls.{lending, run_call}
 use Rattle.definition.specs.Plot.{words_in, input_doors}
@@ -15,14 +17,17 @@ use Rattle.definition.specs.declared.Machine.{Machine}
 use Rattle.definition.specs.declared.Ran.{Ran}
 use Rattle.screen.specs.Screen.{drawing}
 
-module _ (bytes : List ℕ) (budget : ℕ) (set : List ℕ) {image : List ℕ} (e : image ≡ blank) where
-  pub odd : (length bytes % 2 ≡ 0 → ⊥) → left 19 image ≡ drawing bytes budget set
-  unfolding drawing input_doors first_of
-  odd p = rw (ne_eqb _ _ p, e)
+module _ (bytes : List ℕ) (budget : ℕ) (set : List ℕ) {image : List ℕ} (before : List ℕ) (cleared_now : image ≡ cleared before) (whole : length before ≡ image_bytes) where
+  e : image ≡ blank
+  e = cleared_now ∙ cleared_is_blank before whole
 
-  pub too_long : 65536 < length bytes → left 19 image ≡ drawing bytes budget set
+  pub odd : {n : ℕ} → n ≡ 19 → (length bytes % 2 ≡ 0 → ⊥) → left n image ≡ drawing bytes budget set
   unfolding drawing input_doors first_of
-  too_long p = rw (lt-ltb _ _ p, whichever (not (eqb (length bytes % 2) 0)), e)
+  odd is19 p = rw (is19, ne_eqb _ _ p, e)
+
+  pub too_long : {n : ℕ} → n ≡ 19 → 65536 < length bytes → left n image ≡ drawing bytes budget set
+  unfolding drawing input_doors first_of
+  too_long is19 p = rw (is19, lt-ltb _ _ p, whichever (not (eqb (length bytes % 2) 0)), e)
     where
       whichever : (t : Bool) → t || true ≡ true
       whichever true = refl

@@ -2,8 +2,10 @@
 #![tactic(auto)]
 
 ghost use Rattle.std.specs.Prelude.{◌≡◌, ◌++◌, ◌+◌, ◌-◌, ◌*◌, ◌≤◌, ◌<◌, length, take};
-ghost use Rattle.definition.specs.Image.{image_bytes, left};
+ghost use Rattle.definition.specs.Image.{left};
 ghost use Rattle.screen.specs.Screen.{drawing, row, rows, pgm};
+
+use definition::Refusal;
 
 // The bytes of a picture, of its header and of one of its rows.
 pub const PICTURE: usize = 262157;
@@ -12,16 +14,18 @@ const HEADER: usize = 13;
 
 const ROW: usize = 512;
 
-// Clears the image, lets a fresh machine draw the file into it with that budget and that set of characters, and answers 19 or as the run does.
+// Clears the image, lets a fresh machine draw the file into it with that budget and that set of characters, and answers 19 or as the run does:
+// the number of a refusal or the last status. It begins as `line::line_of` does, which draws into no image of its caller: one function would take what the
+// other has not.
 pub fn draw(bytes: &[u8], image: &mut [u8; 65536], budget: u32, set: &[u8]) -> u8
     ensures { left result image.new ≡ drawing bytes.now budget set.now }
 {
     image::clear(image);
     if bytes.len() % 2 != 0 {
-        return 19;
+        return u8::from(Refusal::BadInput);
     }
     if 65536 < bytes.len() {
-        return 19;
+        return u8::from(Refusal::BadInput);
     }
     let mut words = [0u16; 32768];
     let n = line::words_of(bytes, &mut words);
@@ -29,15 +33,13 @@ pub fn draw(bytes: &[u8], image: &mut [u8; 65536], budget: u32, set: &[u8]) -> u
     ran.answer
 }
 
-// Row y of the image, put into a picture from a place on.
-fn put_row(picture: &mut [u8], at: usize, image: &[u8], y: usize)
-    requires { (length image.now ≡ image_bytes) × (y < 512) × (at + 512 ≤ length picture.old) }
-    ensures { take (at + 512) picture.new ≡ take at picture.old ++ row image.now y 512 }
+// The digits of row y of the image.
+fn put_row(digits: &mut [u8], image: &[u8; 65536], y: usize)
+    requires { (y < 512) × (length digits.old ≡ 512) }
+    ensures { digits.new ≡ row image.now y 512 }
 {
-    let mut x = 0;
-    while x < ROW {
-        picture[at + x] = image::read(image, x, y);
-        x += 1;
+    for (x, digit) in digits.iter_mut().enumerate() {
+        *digit = image::read(image, x, y);
     }
 }
 
@@ -49,14 +51,13 @@ fn place_of(y: usize) -> usize
     HEADER + ROW * (511 - y)
 }
 
-fn put_rows(picture: &mut [u8], image: &[u8])
-    requires { (length image.now ≡ image_bytes) × (length picture.old ≡ 262157) }
+fn put_rows(picture: &mut [u8], image: &[u8; 65536])
+    requires { length picture.old ≡ 262157 }
     ensures { picture.new ≡ take 13 picture.old ++ rows image.now 512 }
 {
-    let mut y = image::HEIGHT;
-    while 0 < y {
-        y -= 1;
-        put_row(picture, place_of(y), image, y);
+    for y in (0..image::HEIGHT).rev() {
+        let at = place_of(y);
+        put_row(&mut picture[at..at + ROW], image, y);
     }
 }
 

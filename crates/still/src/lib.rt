@@ -2,13 +2,14 @@
 #![tactic(auto)]
 
 ghost use Rattle.std.specs.Prelude.{◌≡◌};
+ghost use Rattle.definition.specs.Refusal.{answer_of};
+ghost use Rattle.definition.specs.Calls.{started_of, read_of};
 ghost use Rattle.definition.specs.Promises.{PromiseCheck, PromiseFresh, PromiseStart, PromiseClear, PromiseRead};
 
-use definition::{Machine, Pixel, Read, Started, Units};
-use units::Index;
+use definition::{Machine, Pixel, Refusal, Units};
 
-pub fn check(file: &[u16]) -> u8
-    ensures { PromiseCheck file.now result }
+pub fn check(file: &[u16]) -> Result<(), Refusal>
+    ensures { PromiseCheck file.now (answer_of result) }
 {
     file::check(file)
 }
@@ -30,55 +31,36 @@ pub fn fresh() -> Machine
 }
 
 // The counter and the status are set, the rest is kept; from every status, and at odd addresses too.
-pub fn start(m: Machine, address: u16) -> Started
-    ensures { PromiseStart m address result }
+#[tactic(auto, unfolding(definition::specs::Calls::start_call, definition::specs::Machine::machine_doors, definition::specs::Choice::first_of))]
+pub fn start(m: Machine, address: u16) -> Result<Machine, Refusal>
+    ensures { PromiseStart m address (started_of m result) }
 {
     if !doors::ranged(m) {
-        return Started {
-            answer: 16,
-            machine: m,
-        };
+        return Err(Refusal::BadMachine);
     }
     let mut n = m;
     n.counter = address;
     n.status = 0;
-    Started {
-        answer: 0,
-        machine: n,
-    }
+    Ok(n)
 }
 
-pub fn clear(image: &mut [u8]) -> u8
-    ensures { PromiseClear image.old result image.new }
+pub fn clear(image: &mut [u8]) -> Result<(), Refusal>
+    ensures { PromiseClear image.old (answer_of result) image.new }
 {
     if image.len() != image::BYTES {
-        return 11;
+        return Err(Refusal::BadImage);
     }
     image::clear(image);
-    0
+    Ok(())
 }
 
-pub fn read_pixel(image: &[u8], p: Pixel) -> Read
-    ensures { PromiseRead image.now p result }
+pub fn read_pixel(image: &[u8], p: Pixel) -> Result<u8, Refusal>
+    ensures { PromiseRead image.now p (read_of result) }
 {
-    if image.len() != image::BYTES {
-        return no_digit(11);
-    }
-    let Index::At(x) = units::index_in(image::WIDTH, p.x) else {
-        return no_digit(31);
+    let Ok(image) = <&[u8; image::BYTES]>::try_from(image) else {
+        return Err(Refusal::BadImage);
     };
-    let Index::At(y) = units::index_in(image::HEIGHT, p.y) else {
-        return no_digit(31);
-    };
-    Read {
-        answer: 0,
-        digit: image::read(image, x, y),
-    }
-}
-
-// A refusal reads 0.
-fn no_digit(answer: u8) -> Read
-    ensures { result ≡ record { answer = answer; digit = 0 } }
-{
-    Read { answer, digit: 0 }
+    let x = units::index_in(image::WIDTH, p.x).ok_or(Refusal::Outside)?;
+    let y = units::index_in(image::HEIGHT, p.y).ok_or(Refusal::Outside)?;
+    Ok(image::read(image, x, y))
 }

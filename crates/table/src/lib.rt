@@ -2,81 +2,57 @@
 // many differ. What cannot be written is left out.
 #![tactic(auto)]
 
-// The lines so far, and 65,536 more for each that differs.
-pub type Tally = u32;
+ghost use Rattle.std.specs.Prelude.{◌≡◌, ◌+◌, ◌%◌, ◌^◌, if◌then◌else◌};
+
+use std::fmt::Display;
+
+// The lines so far, and those of them that differ.
+pub struct Table<'a, P: Print> {
+    out: &'a P,
+    pub lines: u32,
+    pub differ: u32,
+}
 
 fn say(rt: &impl Print, text: &[u8]) {
     let _ = rt.write_all(text);
 }
 
-// Spaces up to column 36.
-fn fill(rt: &impl Print, column: usize) {
-    let spaces = [32u8; 36];
-    if column < 36 {
-        say(rt, &spaces[column..]);
-    }
-}
-
+// A case, and spaces up to column 36.
 fn case(rt: &impl Print, name: &[u8]) {
     say(rt, name);
-    fill(rt, name.len());
+    say(rt, [b' '; 36].get(name.len()..).unwrap_or(b""));
 }
 
-// Ten columns and a sign, the number to the right.
-fn number(rt: &impl Print, minus: bool, size: u64) {
-    let n = if minus {
-        -i128::from(size)
-    } else {
-        i128::from(size)
-    };
-    let _ = print!(rt; "{n:>11}");
-}
-
-// A signed number counted from the lowest one.
-fn raised(n: i32) -> u32 {
-    (n as i64 + 2147483648) as u32
-}
-
-fn signed(rt: &impl Print, n: i32) {
-    let r = raised(n);
-    if r < 2147483648 {
-        number(rt, true, (2147483648 - r) as u64);
-    } else {
-        number(rt, false, (r - 2147483648) as u64);
+// A table that has its head, and no line yet.
+pub fn head<P: Print>(out: &P) -> Table<'_, P>
+    ensures lines { result.lines ≡ 0 }
+    ensures differ { result.differ ≡ 0 }
+{
+    case(out, b"case");
+    say(out, b"        got   expected\n");
+    Table {
+        out,
+        lines: 0,
+        differ: 0,
     }
 }
 
-// Ends a line, and counts it.
-fn counted(rt: &impl Print, t: Tally, same: bool) -> Tally {
-    say(rt, b"\n");
-    if same {
-        return t.wrapping_add(1);
+impl<P: Print> Table<'_, P> {
+    // Each number to the right of ten columns and a sign.
+    pub fn row<T: Display + PartialEq + Copy>(&mut self, name: &[u8], got: T, expected: T)
+        ensures lines { self.new.lines ≡ (self.old.lines + 1) % 2 ^ 32 }
+        ensures differ { self.new.differ ≡ (if T.eq got expected then self.old.differ else (self.old.differ + 1) % 2 ^ 32) }
+    {
+        case(self.out, name);
+        let _ = println!(self.out; "{got:>11}{expected:>11}");
+        self.lines = self.lines.wrapping_add(1);
+        if got != expected {
+            self.differ = self.differ.wrapping_add(1);
+        }
     }
-    t.wrapping_add(65537)
-}
 
-pub fn row(rt: &impl Print, t: Tally, name: &[u8], got: u32, expected: u32) -> Tally {
-    case(rt, name);
-    number(rt, false, got as u64);
-    number(rt, false, expected as u64);
-    counted(rt, t, got == expected)
-}
-
-// Of numbers that may be below zero.
-pub fn signed_row(rt: &impl Print, t: Tally, name: &[u8], got: i32, expected: i32) -> Tally {
-    case(rt, name);
-    signed(rt, got);
-    signed(rt, expected);
-    counted(rt, t, got == expected)
-}
-
-pub fn head(rt: &impl Print) {
-    case(rt, b"case");
-    say(rt, b"        got   expected\n");
-}
-
-pub fn foot(rt: &impl Print, t: Tally) {
-    let lines = t % 65536;
-    let differ = t / 65536;
-    let _ = println!(rt; "{lines} lines, {differ} differ");
+    pub fn foot(self) {
+        let Table { out, lines, differ } = self;
+        let _ = println!(out; "{lines} lines, {differ} differ");
+    }
 }

@@ -1,3 +1,1 @@
 pub mod FiguresLaws
-pub mod TextLaws
-pub mod SizeLaws

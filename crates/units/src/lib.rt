@@ -2,27 +2,13 @@
 #![tactic(auto)]
 
 ghost use Rattle.std.specs.Prelude.{◌≡◌, true};
-ghost use Rattle.definition.specs.Units.{pixels_of, moved};
+ghost use Rattle.definition.specs.Units.{units, pixels_of, moved};
 ghost use Rattle.definition.specs.Image.{square, pixel_at};
 ghost use Rattle.definition.specs.Words.{move};
 ghost use Rattle.definition.specs.Machine.{in_range};
 ghost use Rattle.units.specs.Answers.{moved_to, index_in};
 
 use definition::{Pixel, Pixels, Units};
-
-// Where a move leads, or that it leads out of the range.
-#[derive(Clone, Copy)]
-pub enum Moved {
-    To(Units),
-    Out,
-}
-
-// A pixel's coordinate as an index of the field, or that it has none.
-#[derive(Clone, Copy)]
-pub enum Index {
-    At(usize),
-    Outside,
-}
 
 const LOWEST: i64 = -4096;
 
@@ -47,52 +33,40 @@ pub fn pixel_at(x: Units, y: Units) -> Pixel
 pub fn move_of(minus: bool, size: u16) -> Units
     ensures { result ≡ move minus size }
 {
-    let n = size as i32;
-    if minus {
-        let negative = -n;
-        return Units(negative);
-    }
-    Units(n)
+    let n = i32::from(size);
+    Units(if minus { -n } else { n })
+}
+
+// Whether a count of units is in range. No `contains`: tried, and its proof did not close.
+fn within(n: i64) -> bool
+    ensures { result ≡ in_range (units n) }
+{
+    LOWEST <= n && n <= HIGHEST
 }
 
 pub fn in_range(u: Units) -> bool
     ensures { result ≡ in_range u }
 {
-    let n = u.0 as i64;
-    if n < LOWEST {
-        return false;
-    }
-    n <= HIGHEST
+    within(i64::from(u.0))
 }
 
-// The sum is taken in 64 bits, where it fits whatever the two are.
-pub fn moved_to(u: Units, by: Units) -> Moved
+// Where a move leads, if it stays within the range.
+#[tactic(auto, unfolding(crate::specs::Answers::moved_to))]
+pub fn moved_to(u: Units, by: Units) -> Option<Units>
     ensures { result ≡ moved_to u by }
 {
-    let from = u.0 as i64;
-    let distance = by.0 as i64;
-    let sum = from + distance;
-    if sum < LOWEST {
-        return Moved::Out;
+    if may_move(u, by) {
+        Some(moved_by(u, by))
+    } else {
+        None
     }
-    if HIGHEST < sum {
-        return Moved::Out;
-    }
-    let end = sum as i32;
-    Moved::To(Units(end))
 }
 
-// Whether a move stays within the range.
+// Whether a move stays within the range. The sum is taken in 64 bits, where it fits whatever the two are.
 pub fn may_move(u: Units, by: Units) -> bool
     ensures { result ≡ in_range (moved u by) }
 {
-    let from = u.0 as i64;
-    let distance = by.0 as i64;
-    let sum = from + distance;
-    if sum < LOWEST {
-        return false;
-    }
-    sum <= HIGHEST
+    within(i64::from(u.0) + i64::from(by.0))
 }
 
 // Where a move leads that stays within the range.
@@ -103,17 +77,12 @@ pub fn moved_by(u: Units, by: Units) -> Units
     Units(u.0 + by.0)
 }
 
-// The one place where a signed number becomes an index.
-pub fn index_in(limit: usize, p: Pixels) -> Index
+// A pixel's coordinate as an index of the field, if it has one: the one place where a signed number becomes an index.
+pub fn index_in(limit: usize, p: Pixels) -> Option<usize>
     ensures { result ≡ index_in limit p }
 {
-    let c = p.0;
-    if c < 0 {
-        return Index::Outside;
+    match usize::try_from(p.0) {
+        Ok(i) if i < limit => Some(i),
+        _ => None,
     }
-    let i = c as usize;
-    if i < limit {
-        return Index::At(i);
-    }
-    Index::Outside
 }

@@ -1,16 +1,16 @@
--- A vector's coordinates as the machine computes them, over plain variables: raised above zero, by one, rounded.
-use Prim.Native.Nat.{ℕ, ◌+◌, ◌-◌, ◌*◌, ◌/◌, ◌≤◌, ◌<◌}
+-- A vector's coordinates as the machine computes them, over plain variables: by one and rounded.
+use Prim.Native.Nat.{ℕ, ◌+◌, ◌-◌, ◌*◌, ◌/◌, ◌≤◌, ◌<◌, max}
 use mathlib.Core.Bool.{Bool, true, false}
 use mathlib.Core.Path.{◌≡◌, refl, sym, ap, ◌∙◌}
 use native.Mathlib.Omega.{arith}
 use native.Mathlib.Nat.{mul-le-mul, div-add-mod', div-le_self, mod-lt}
-use lib.Dec.{T, leb}
+use lib.Dec.{leb}
 use lib.IntN.{ℤ, pos, negsuc, nat_abs, ◌+ℤ◌, ◌-ℤ◌}
-use lib.Signed.{le_z, non_neg, ◌≤ℤ◌, ◌<ℤ◌}
+use lib.Signed.{le_z, ◌≤ℤ◌, ◌<ℤ◌}
 use mir.Syntax.{w32}
-use mir.Val.{SFits, Fits, to_z}
+use mir.Val.{SFits, to_z}
 use mir.Facts.{to_z-of_z, to_z_pos}
-use Rattle.whole.specs.Parts.{whole, up, dn, add, sub, abs, floor_is}
+use Rattle.whole.specs.Parts.{whole, up, dn, add, sub, floor_is}
 use Rattle.whole.specs.Bits.{rd, lit, op_fits, op_back}
 use Rattle.definition.specs.Units.{pixels}
 use Rattle.definition.specs.Vector.{apart_x, apart_y, longer, by_one, rounded, nth}
@@ -18,37 +18,6 @@ use Rattle.definition.specs.declared.Pixels.{Pixels}
 use Rattle.definition.specs.declared.Pixel.{Pixel}
 use Rattle.definition.proofs.VectorLaws.{top, top_parts}
 use Rattle.vector.specs.Raised.{Reached, nearest_to}
-
--- ---- raised
-module _ (p : Pixels) (h : Reached p) where
-  fits : SFits w32 p.0
-  fits = omega whole
-
-  room : SFits w32 (p.0 +ℤ pos 2048)
-  room = omega (whole, add p.0 (pos 2048))
-
-  abbrev sum : ℤ
-  sum = rd w32 (rd w32 p.0 +ℤ pos 2048)
-
-  pub raised_fits : SFits w32 (rd w32 p.0 +ℤ pos 2048)
-  raised_fits = op_fits ◌+ℤ◌ (to_z-of_z fits) (lit (pos 2048)) room
-
-  sum_is : sum ≡ p.0 +ℤ pos 2048
-  sum_is = op_back ◌+ℤ◌ (to_z-of_z fits) (lit (pos 2048)) room
-
-  pub raised_cast : T (non_neg sum) × Fits w32 (nat_abs sum)
-  raised_cast = let e = sum_is in omega (whole, abs sum, add p.0 (pos 2048))
-
-  pub raised_is : (pos (nat_abs sum) ≡ p.0 +ℤ pos 2048) × (nat_abs sum < 4096)
-  raised_is = let e = sum_is in omega (whole, abs sum, add p.0 (pos 2048))
-
--- ---- how far apart
-module _ (a b : ℤ) {s e : ℕ} (ps : pos s ≡ a +ℤ pos 2048) (pe : pos e ≡ b +ℤ pos 2048) where
-  pub apart_up : s < e → e - s ≡ nat_abs (b -ℤ a)
-  apart_up h = omega (whole, add a (pos 2048), add b (pos 2048), sub b a, abs (b -ℤ a))
-
-  pub apart_down : e ≤ s → s - e ≡ nat_abs (b -ℤ a)
-  apart_down h = omega (whole, add a (pos 2048), add b (pos 2048), sub b a, abs (b -ℤ a))
 
 -- ---- by one
 pub by_up : (s d : ℤ) (i : ℕ) → pos 0 ≤ℤ d → by_one s d i ≡ s +ℤ pos i
@@ -77,18 +46,12 @@ module _ (start end : Pixels) (i : ℕ) (hs : Reached start) (he : Reached end) 
   room_down : SFits w32 (start.0 -ℤ pos i)
   room_down = omega (whole, sub start.0 (pos i))
 
-  pub by_one_up_fits : SFits w32 (rd w32 start.0 +ℤ to_z w32 i)
-  by_one_up_fits = op_fits ◌+ℤ◌ (to_z-of_z fits_start) step room_up
-
   pub by_one_up : le_z (rd w32 start.0) (rd w32 end.0) ≡ true → pixels (rd w32 (rd w32 start.0 +ℤ to_z w32 i)) ≡ pixels (by_one start.0 (end.0 -ℤ start.0) i)
   by_one_up t =
       let s = to_z-of_z fits_start in
       let e = to_z-of_z fits_end in
       let h : pos 0 ≤ℤ (end.0 -ℤ start.0) = omega (whole, sub end.0 start.0) in
       ap pixels (op_back ◌+ℤ◌ s step room_up ∙ sym (by_up start.0 (end.0 -ℤ start.0) i h))
-
-  pub by_one_down_fits : SFits w32 (rd w32 start.0 -ℤ to_z w32 i)
-  by_one_down_fits = op_fits ◌-ℤ◌ (to_z-of_z fits_start) step room_down
 
   pub by_one_down : le_z (rd w32 start.0) (rd w32 end.0) ≡ false → pixels (rd w32 (rd w32 start.0 -ℤ to_z w32 i)) ≡ pixels (by_one start.0 (end.0 -ℤ start.0) i)
   by_one_down t =
@@ -134,9 +97,6 @@ module _ (a b : ℤ) {s e n i : ℕ} (ps : pos s ≡ a +ℤ pos 2048) (pe : pos 
     small : q < 134217728
     small = omega (arith, parts_fit s e n i hs he top hi, div-le_self (2 * (s * (n - i) + e * i) + n) (2 * n))
 
-    pub rounded_fits : SFits w32 (pos q)
-    rounded_fits = let l = small in omega whole
-
     lowered : SFits w32 (pos q -ℤ pos 2048)
     lowered = let l = small in omega (whole, sub (pos q) (pos 2048))
 
@@ -150,11 +110,11 @@ module _ (a b : ℤ) {s e n i : ℕ} (ps : pos s ≡ a +ℤ pos 2048) (pe : pos 
     rounded_is = ap pixels (op_back ◌-ℤ◌ read (lit (pos 2048)) lowered ∙ ap (λ (t : ℕ). pos t -ℤ pos 2048) eq ∙ nearest_is)
 
 -- ---- pixel i
-module _ (a b : Pixel) (i : ℕ) {across : Bool} {n : ℕ} {x y : Pixels} (e : across ≡ leb (nat_abs (apart_y a b)) (nat_abs (apart_x a b))) (en : n ≡ longer a b) where
+module _ (a b : Pixel) (i : ℕ) {across : Bool} {n : ℕ} {x y : Pixels} (e : across ≡ leb (nat_abs (apart_y a b)) (nat_abs (apart_x a b))) (en : n ≡ max (nat_abs (apart_x a b)) (nat_abs (apart_y a b))) where
   pub nth_across : across ≡ true → x ≡ pixels (by_one a.x.0 (apart_x a b) i) → y ≡ pixels (rounded a.y.0 (apart_y a b) n i) → record { x = x; y = y } ≡ nth a b i
-  unfolding nth
+  unfolding nth longer
   nth_across t ex ey = rw (← e, t, ← en, ex, ey)
 
   pub nth_up : across ≡ false → x ≡ pixels (rounded a.x.0 (apart_x a b) n i) → y ≡ pixels (by_one a.y.0 (apart_y a b) i) → record { x = x; y = y } ≡ nth a b i
-  unfolding nth
+  unfolding nth longer
   nth_up t ex ey = rw (← e, t, ← en, ex, ey)

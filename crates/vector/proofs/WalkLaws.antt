@@ -4,10 +4,10 @@ use mathlib.Core.Path.{◌≡◌}
 use mathlib.Core.List.{List, [], ◌∷◌}
 use native.Mathlib.Numerals.{add-one}
 use borrow.Author.Tests.{eq-eqb, ne_eqb}
-use lib.Dec.{leb}
-use lib.IntN.{nat_abs}
+use lib.IntN.{ℤ, nat_abs, ◌-ℤ◌}
+use Rattle.definition.specs.Units.{pixel}
 use Rattle.definition.specs.Image.{Shape, Pen, left}
-use Rattle.definition.specs.Vector.{apart_x, apart_y, longer, nth, numbered, vector}
+use Rattle.definition.specs.Vector.{longer, nth, numbered, vector}
 use Rattle.definition.specs.declared.Pixel.{Pixel}
 use Rattle.image.specs.Drawn.{drawn}
 use Rattle.image.proofs.DrawnLaws.{drawn_more}
@@ -17,14 +17,11 @@ pub walk_turn : (s : Shape) (pen : Pen) (im : List ℕ) (f : ℕ → Pixel) (i :
 unfolding numbered
 walk_turn s pen im f i e ep d = rw (add-one i, ← ep) (drawn_more s pen im (numbered f i) _ e d)
 
+pub longer_is : {a b : Pixel} {n : ℕ} {x y x1 y1 : ℤ} → pixel x y ≡ a → pixel x1 y1 ≡ b → n ≡ max (nat_abs (x1 -ℤ x)) (nat_abs (y1 -ℤ y)) → n ≡ longer a b
+unfolding longer
+longer_is ea eb e = rw (← ea, ← eb) e
+
 module _ (a b : Pixel) where
-  pub longer_is : {x y n : ℕ} → x ≡ nat_abs (apart_x a b) → y ≡ nat_abs (apart_y a b) → n ≡ max x y → n ≡ longer a b
-  unfolding longer
-  longer_is ex ey en = rw (en, ex, ey)
-
-  pub across_is : {x y : ℕ} → x ≡ nat_abs (apart_x a b) → y ≡ nat_abs (apart_y a b) → leb y x ≡ leb (nat_abs (apart_y a b)) (nat_abs (apart_x a b))
-  across_is ex ey = rw (ex, ey)
-
   pub vector_one : longer a b ≡ 0 → (a ∷ []) ≡ vector a b
   unfolding vector
   vector_one e = rw (eq-eqb (longer a b) 0 e)

@@ -3,43 +3,34 @@
 
 ghost use Rattle.std.specs.Prelude.{ℕ, ◌≡◌};
 ghost use Rattle.definition.specs.Choice.{first_of};
+ghost use Rattle.definition.specs.Refusal.{answer_of};
 ghost use Rattle.definition.specs.Words.{bits, sets_mode, not_built, order, item, decode, short_x, short_y, long, coordinate, first_code, second_code, is_code, first_refusals, second_refusals};
 
-use definition::{IncrementBits, Instruction, Item, ModeBits, Order, StopBits, Units, WriteBits};
+use definition::{
+    IncrementBits, Instruction, Item, ModeBits, Order, Refusal, StopBits, Units, WriteBits,
+};
 
+// A mode is a number here as in the machine, which may have any: the clauses are about any. A field of a word is cast by `as` below, as it fits by its bits.
 pub const NO_MODE: u8 = 255;
 
 const CHARACTERS: u8 = 0;
 
+// In mode 0 bit 14 belongs to the second code, and every character is lit.
+#[tactic(auto, unfolding(definition::specs::Words::decode))]
 pub fn decode(mode: u8, word: u16) -> Instruction
     ensures { result ≡ decode mode word }
 {
     if word / 32768 % 2 == 1 {
         return Instruction::Does(order(word));
     }
-    if mode == CHARACTERS {
-        return Instruction::Draws {
-            lit: true,
-            item: characters(word),
-        };
-    }
     Instruction::Draws {
-        lit: word / 16384 % 2 == 1,
+        lit: mode == CHARACTERS || word / 16384 % 2 == 1,
         item: item(mode, word),
     }
 }
 
-// Every character is lit: bit 14 belongs to the second code.
-fn characters(word: u16) -> Item
-    ensures { result ≡ item 0 word }
-{
-    Item::Characters {
-        first: first_code(word) as u8,
-        second: second_code(word) as u8,
-    }
-}
-
 // A code that is not built has no order of its own and reads as 15 does: first_refusal stops it first.
+#[tactic(auto, unfolding(definition::specs::Words::order))]
 fn order(word: u16) -> Order
     ensures { result ≡ order word }
 {
@@ -74,18 +65,23 @@ fn order(word: u16) -> Order
     }
 }
 
+#[tactic(auto, unfolding(definition::specs::Words::sets_mode))]
 fn sets_mode(code: u16) -> bool
     ensures { result ≡ sets_mode code }
 {
     code <= 6
 }
 
-// A number that is no mode reads as mode 6 does. Mode 0 is `characters`.
+// A number that is no mode reads as mode 6 does.
+#[tactic(auto, unfolding(definition::specs::Words::item))]
 fn item(mode: u8, word: u16) -> Item
-    requires { mode ≡ 0 → ⊥ }
     ensures { result ≡ item mode word }
 {
     match mode {
+        CHARACTERS => Item::Characters {
+            first: first_code(word) as u8,
+            second: second_code(word) as u8,
+        },
         1 => Item::ShortVector {
             x: short_x(word),
             y: short_y(word),
@@ -107,10 +103,11 @@ fn item(mode: u8, word: u16) -> Item
     }
 }
 
+// The move along X stands seven bits above that along Y.
 fn short_x(word: u16) -> Units
     ensures { result ≡ short_x word }
 {
-    units::move_of(word / 8192 % 2 == 1, word / 128 % 64)
+    short_y(word / 128)
 }
 
 fn short_y(word: u16) -> Units
@@ -130,7 +127,7 @@ pub fn long(word: u16) -> Units
 pub fn coordinate(word: u16) -> Units
     ensures { result ≡ coordinate word }
 {
-    units::move_of(false, word % 1024)
+    Units(i32::from(word % 1024))
 }
 
 // The two characters of a word, the low one first.
@@ -143,12 +140,12 @@ fn first_code(word: u16) -> u16
 fn second_code(word: u16) -> u16
     ensures { result ≡ second_code word }
 {
-    word / 256 % 128
+    first_code(word / 256)
 }
 
-// What a first word is refused with, by its bit 15; 0 where it is not refused.
-pub fn first_refusal(mode: u8, word: u16) -> u8
-    ensures { result ≡ first_of (first_refusals mode word) }
+// What a first word is refused with, by its bit 15.
+pub fn first_refusal(mode: u8, word: u16) -> Result<(), Refusal>
+    ensures { answer_of result ≡ first_of (first_refusals mode word) }
 {
     if word / 32768 % 2 == 1 {
         return order_refusal(word);
@@ -156,56 +153,55 @@ pub fn first_refusal(mode: u8, word: u16) -> u8
     item_refusal(mode, word)
 }
 
-// 24 or 0, for a word with bit 15 set, in every mode.
-fn order_refusal(word: u16) -> u8
+// For a word with bit 15 set, in every mode.
+#[tactic(auto, unfolding(definition::specs::Words::first_refusals, definition::specs::Choice::first_of))]
+fn order_refusal(word: u16) -> Result<(), Refusal>
     requires { bits 15 15 word ≡ 1 }
-    ensures { (mode : ℕ) → result ≡ first_of (first_refusals mode word) }
+    ensures { (mode : ℕ) → answer_of result ≡ first_of (first_refusals mode word) }
 {
     if not_built(word / 2048 % 16) {
-        return 24;
+        return Err(Refusal::NotBuilt);
     }
-    0
+    Ok(())
 }
 
-// 25, 32 or 0, for a word with bit 15 clear.
-fn item_refusal(mode: u8, word: u16) -> u8
+// For a word with bit 15 clear.
+#[tactic(auto, unfolding(definition::specs::Words::first_refusals, definition::specs::Choice::first_of))]
+fn item_refusal(mode: u8, word: u16) -> Result<(), Refusal>
     requires { bits 15 15 word ≡ 1 → ⊥ }
-    ensures { result ≡ first_of (first_refusals mode word) }
+    ensures { answer_of result ≡ first_of (first_refusals mode word) }
 {
     if mode == NO_MODE {
-        return 25;
+        return Err(Refusal::NoModeSet);
     }
-    if mode != CHARACTERS {
-        return 0;
+    if mode == CHARACTERS && !(is_code(first_code(word)) && is_code(second_code(word))) {
+        return Err(Refusal::BadCharacter);
     }
-    if !is_code(first_code(word)) {
-        return 32;
-    }
-    if !is_code(second_code(word)) {
-        return 32;
-    }
-    0
+    Ok(())
 }
 
 // Whether a set has a cell for it.
+#[tactic(auto, unfolding(definition::specs::Words::is_code))]
 fn is_code(code: u16) -> bool
     ensures { result ≡ is_code code }
 {
-    32 <= code && code <= 126
+    (32..=126).contains(&code)
 }
 
+#[tactic(auto, unfolding(definition::specs::Words::not_built))]
 fn not_built(code: u16) -> bool
     ensures { result ≡ not_built code }
 {
-    7 <= code && code <= 11
+    (7..=11).contains(&code)
 }
 
-// 26 or 0, for the second word of a long vector or an absolute point.
-pub fn second_refusal(second: u16) -> u8
-    ensures { result ≡ first_of (second_refusals second) }
+// For the second word of a long vector or an absolute point.
+#[tactic(auto, unfolding(definition::specs::Words::second_refusals, definition::specs::Choice::first_of))]
+pub fn second_refusal(second: u16) -> Result<(), Refusal>
+    ensures { answer_of result ≡ first_of (second_refusals second) }
 {
     if second / 32768 % 2 == 1 {
-        return 26;
+        return Err(Refusal::SecondWord);
     }
-    0
+    Ok(())
 }

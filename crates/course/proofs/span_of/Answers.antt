@@ -3,4 +3,4 @@ use Rattle.course.proofs.span_of.Goals as goal
 
 pub returns : goal.returns
 returns c =
-    spans _ c.less.ensures c.less-2.ensures c.less-3.ensures c.less-4.ensures c.arrives-first.ensures c.arrives-end.ensures c.larger.ensures c.smaller.ensures
+    spans _ c.saturating_sub.ensures c.saturating_sub-2.ensures c.saturating_sub-3.ensures c.saturating_sub-4.ensures c.arrives-first.ensures c.arrives-end.ensures c.max.ensures c.min.ensures

@@ -1,18 +1,26 @@
+use native.Mathlib.Omega.{arith}
 use Rattle.definition.specs.Calls.{lending}
-use Rattle.display.proofs.CallLaws.{turned_away_is, turned_away_then, granted, ran}
+use Rattle.display.proofs.CallLaws.{lent_is, turned_away_is, turned_away_then, granted, ran}
 use Rattle.display.proofs.run.Goals as goal
 
-pub returns-then-wrong-ne0 : goal.returns-then-wrong-ne0
-returns-then-wrong-ne0 c = turned_away_is (lending _ _) _ _ _ c.lent_door-wrong.ensures c.if-wrong-ne0.true c.turned_away.ensures
+pub returns-in-Err : goal.returns-in-Err
+returns-in-Err c = turned_away_is (lending _ _) _ _ _ _ c.in-Err.ensures c.turned_away.ensures
 
-pub returns-then-shut-ne0 : goal.returns-then-shut-ne0
-returns-then-shut-ne0 c =
-    turned_away_then (lending _ _) _ _ _ c.lent_door-wrong.ensures c.if-wrong-ne0.false c.asked_door-shut.ensures c.if-shut-ne0.true c.turned_away-then-shut-ne0.ensures
+pub returns-in-Err-asked_door : goal.returns-in-Err-asked_door
+returns-in-Err-asked_door c =
+    turned_away_then (lending _ _) _ _ _ c.in_default.ensures _ c.in-Err-asked_door.ensures c.turned_away-in-Err-asked_door.ensures
+
+pub unwrap-image-requires : goal.unwrap-image-requires
+unwrap-image-requires c = c.as_mut_array.ensures.variant.1 (granted (lending _ _) _ _ _ c.in_default.ensures c.in_default-asked_door.ensures).0
+
+pub invariant_of-ranged : goal.invariant_of-ranged
+invariant_of-ranged c = (granted (lending _ _) _ _ _ c.in_default.ensures c.in_default-asked_door.ensures).1
 
 pub run-requires : goal.run-requires
-run-requires c =
-    granted (lending _ _) _ _ _ c.lent_door-wrong.ensures c.if-wrong-ne0.false c.asked_door-shut.ensures c.if-shut-ne0.false
+run-requires c = omega (arith, (granted (lending _ _) _ _ _ c.in_default.ensures c.in_default-asked_door.ensures).2)
 
 pub returns : goal.returns
 returns c =
-    ran (lending _ _) _ _ _ c.lent_door-wrong.ensures c.if-wrong-ne0.false c.asked_door-shut.ensures c.if-shut-ne0.false c.run.ensures
+    let same = (rw c.unwrap-image.ensures at c.as_mut_array.ensures.cases).same in
+    let set = lent_is _ _ (granted (lending _ c.args.set.now) _ _ _ c.in_default.ensures c.in_default-asked_door.ensures).3 c.as_array.ensures.cases in
+    ran (lending _ _) _ _ _ c.in_default.ensures c.in_default-asked_door.ensures same set c.run.ensures

@@ -1,19 +1,22 @@
 use Rattle.definition.specs.Calls.{lending}
-use Rattle.display.proofs.CallLaws.{turned_away_is, turned_away_then, granted, ran}
+use Rattle.display.proofs.CallLaws.{lent_is, turned_away_is, turned_away_then, granted, ran}
 use Rattle.display.proofs.step.Goals as goal
 
-pub returns-then-why-ne0 : goal.returns-then-why-ne0
-returns-then-why-ne0 c = turned_away_is (lending _ _) _ _ _ c.lent_door-why.ensures c.if-why-ne0.true c.turned_away.ensures
+pub returns-in-Err : goal.returns-in-Err
+returns-in-Err c = turned_away_is (lending _ _) _ _ _ _ c.in-Err.ensures c.turned_away.ensures
 
-pub returns-then-also-ne0 : goal.returns-then-also-ne0
-returns-then-also-ne0 c =
-    turned_away_then (lending _ _) _ _ _ c.lent_door-why.ensures c.if-why-ne0.false c.asked_door-also.ensures c.if-also-ne0.true c.turned_away-then-also-ne0.ensures
+pub returns-in-Err-asked_door : goal.returns-in-Err-asked_door
+returns-in-Err-asked_door c =
+    turned_away_then (lending _ _) _ _ _ c.in_default.ensures _ c.in-Err-asked_door.ensures c.turned_away-in-Err-asked_door.ensures
 
-pub one-requires : goal.one-requires
-one-requires c =
-    let h = granted (lending _ _) _ _ _ c.lent_door-why.ensures c.if-why-ne0.false c.asked_door-also.ensures c.if-also-ne0.false in
-    (h.0, h.1, h.3)
+pub unwrap-image-requires : goal.unwrap-image-requires
+unwrap-image-requires c = c.as_mut_array.ensures.variant.1 (granted (lending _ _) _ _ _ c.in_default.ensures c.in_default-asked_door.ensures).0
+
+pub invariant_of-one : goal.invariant_of-one
+invariant_of-one c = (granted (lending _ _) _ _ _ c.in_default.ensures c.in_default-asked_door.ensures).1
 
 pub returns : goal.returns
 returns c =
-    ran (lending _ _) _ _ _ c.lent_door-why.ensures c.if-why-ne0.false c.asked_door-also.ensures c.if-also-ne0.false c.one.ensures
+    let same = (rw c.unwrap-image.ensures at c.as_mut_array.ensures.cases).same in
+    let set = lent_is _ _ (granted (lending _ c.args.set.now) _ _ _ c.in_default.ensures c.in_default-asked_door.ensures).3 c.as_array.ensures.cases in
+    ran (lending _ _) _ _ _ c.in_default.ensures c.in_default-asked_door.ensures same set c.one.ensures

@@ -2,11 +2,7 @@ use Rattle.items.proofs.ItemLaws.{dark, lit_point}
 use Rattle.items.proofs.point.Goals as goal
 
 pub returns-then-not-keeps : goal.returns-then-not-keeps
-returns-then-not-keeps c = dark _ _ _ c.keeps.ensures _ c.if-not-keeps.true-raw
-
-pub plot-requires : goal.plot-requires
-plot-requires c = rw c.ink_of.ensures c.requires
+returns-then-not-keeps c = rw (← c.m.view_is) (dark _ _ _ c.keeps.ensures _ c.if-not-keeps.true)
 
 pub returns : goal.returns
-returns c =
-    lit_point _ _ _ c.keeps.ensures _ _ c.if-not-keeps.false-raw c.pixel_at.ensures c.ink_of.ensures c.plot.ensures
+returns c = rw (← c.m.view_is) (lit_point _ _ _ c.keeps.ensures _ _ c.if-not-keeps.false c.pixel_at.ensures (rw (← c.m.view_is) at c.brush_of.ensures) c.plot.ensures)

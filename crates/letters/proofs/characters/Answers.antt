@@ -1,41 +1,39 @@
 use Prim.Native.Nat.{ℕ}
 use mathlib.Core.List.{List}
 use mathlib.Core.Logic.{inl}
-use mathlib.Core.Path.{◌≡◌, refl, sym, ap, ◌∙◌}
+use mathlib.Core.Path.{◌≡◌, ap}
+use native.Mathlib.Omega.{arith}
 use lib.ListN.{length}
-use borrow.Author.Tests.{not-false, eqb-true, eqb-false}
 use Rattle.definition.specs.Characters.{chosen}
 use Rattle.definition.specs.BuiltIn.{built_in}
 use Rattle.definition.proofs.StepLaws.{ranges}
-use Rattle.items.proofs.ItemLaws.{may_lead, may_not, goes_to}
+use Rattle.cells.specs.Lent.{lent}
+use Rattle.items.proofs.ItemLaws.{move_leads, move_leaves, goes_to}
 use Rattle.letters.specs.Pair.{pair_pixels}
-use Rattle.letters.proofs.LetterLaws.{half_way, stay_leads, word_refused, word_put_off, word_done}
+use Rattle.letters.proofs.LetterLaws.{half_way, stay_leads, serving, word_refused, word_put_off, word_done}
 use Rattle.letters.proofs.characters.Goals as goal
 
-pub returns-then-not-may_move : goal.returns-then-not-may_move
-returns-then-not-may_move c =
-    word_refused _ _ _ _ _ (inl (may_not _ _ refl c.may_move.ensures c.if-not-may_move.true-raw)) c.refused.ensures
+pub returns-in_default : goal.returns-in_default
+returns-in_default c = rw (← c.m.view_is) (word_refused _ _ _ _ _ (inl (move_leaves _ _ c.moved_to.ensures c.in_default.is)) c.refused_for.ensures)
 
-pub returns-then-is_none : goal.returns-then-is_none
-returns-then-is_none c =
-    word_put_off _ _ _ _ _ (may_lead _ _ refl c.may_move.ensures c.if-not-may_move.false-raw refl) (stay_leads _ ((ranges _).0 c.requires.1).y)
-    (eqb-true _ _ (sym c.is_none.ensures ∙ c.if-is_none.true)) c.refused-then-is_none.ensures
+pub returns-in_default-set : goal.returns-in_default-set
+returns-in_default-set c =
+    rw (← c.m.view_is)
+    (word_put_off _ _ _ _ _ (move_leads _ _ c.moved_to.ensures c.in-Some.is) (stay_leads _ ((ranges _).0 c.m.invariant).y)
+    (ap (λ s. length (lent s)) c.in_default-set.is) c.put_off.ensures)
 
 pub both-stores-requires : goal.both-stores-requires
 both-stores-requires c =
-    let none : length (chosen c.args.lent.now c.args.built.now) ≡ 0 → ⊥ = eqb-false _ _ (sym c.is_none.ensures ∙ c.if-is_none.false) in
-    let h = c.requires in
-    let w = sym c.may_move.ensures ∙ not-false _ c.if-not-may_move.false-raw in
-    (h.0, h.1, half_way _ ((ranges _).0 h.1).x w, h.2, h.3, ap length (h.4.1 none) ∙ h.4.0)
-
-pub moved_by-requires : goal.moved_by-requires
-moved_by-requires c = sym c.may_move.ensures ∙ not-false _ c.if-not-may_move.false-raw
+    let w = move_leads _ _ c.moved_to.ensures c.in-Some.is in
+    rw (← c.m.view_is) (half_way _ ((ranges _).0 c.m.invariant).x (rw w.to w.within))
 
 pub returns : goal.returns
 returns c =
-    let none : length (chosen c.args.lent.now c.args.built.now) ≡ 0 → ⊥ = eqb-false _ _ (sym c.is_none.ensures ∙ c.if-is_none.false) in
     let a = c.args in
-    let draws : List ℕ → _ = λ set. pair_pixels set a.m a.first a.second in
-    word_done _ _ _ _ _ none
-    (goes_to _ _ _ _ _ (λ x y. draws (chosen a.lent.now built_in)) (may_lead _ _ refl c.may_move.ensures c.if-not-may_move.false-raw c.moved_by.ensures) (stay_leads _ ((ranges _).0 c.requires.1).y)
-    (rw (← c.requires.4.1 none) c.both-stores.ensures) c.placed.ensures)
+    let there = ap lent c.in-Some-set.is in
+    let some : length (lent a.set) ≡ 0 → ⊥ = λ z. omega (arith, z, c.both-stores.ensures.whole, ap length there) in
+    let draws : List ℕ → _ = λ set. pair_pixels set c.m.inside.machine a.first.value a.second.value in
+    rw (← c.m.view_is)
+    (word_done _ _ _ _ _ some
+    (goes_to _ _ _ _ _ (λ x y. draws (chosen (lent a.set) built_in)) (move_leads _ _ c.moved_to.ensures c.in-Some.is) (stay_leads _ ((ranges _).0 c.m.invariant).y)
+    (rw (serving _ some, there) (rw (← c.m.view_is) at c.both-stores.ensures.stores)) c.placed.ensures))

@@ -5,14 +5,12 @@ use Rattle.machine.proofs.StepLaws.{absolute_done, item_turned, coordinate_in}
 use Rattle.machine.proofs.absolute_point.Goals as goal
 
 pub absolute_point-requires : goal.absolute_point-requires
-absolute_point-requires c =
-    let h = c.requires in
-    (h.0, h.1, h.2, rw c.coordinate.ensures (coordinate_in _))
+absolute_point-requires c = (c.requires, rw c.coordinate.ensures (coordinate_in _))
 
-pub returns-in-Taken : goal.returns-in-Taken
-returns-in-Taken c =
-    absolute_done (given (plain _)) _ _ _ c.second_word.ensures c.in-Taken.is _ c.coordinate.ensures c.absolute_point.ensures
+pub returns-in-Ok : goal.returns-in-Ok
+returns-in-Ok c =
+    rw (← c.m.view_is) (absolute_done (given (plain _)) c.m.inside.machine _ _ c.second_word.ensures c.in-Ok.is _ c.coordinate.ensures (rw (← c.m.view_is) at c.absolute_point.ensures))
 
-pub returns-in-Turned : goal.returns-in-Turned
-returns-in-Turned c =
-    item_turned (given (plain _)) _ _ _ c.second_word.ensures (AbsolutePoint _) refl c.in-Turned.is c.refused.ensures
+pub returns-in-Err : goal.returns-in-Err
+returns-in-Err c =
+    rw (← c.m.view_is) (item_turned (given (plain _)) c.m.inside.machine _ _ c.second_word.ensures (AbsolutePoint _) refl c.in-Err.is c.refused_for.ensures)

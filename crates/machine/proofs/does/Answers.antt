@@ -1,13 +1,10 @@
 use mathlib.Core.Path.{refl}
 use Rattle.definition.specs.Calls.{plain, given}
-use Rattle.machine.proofs.StepLaws.{obeyed, obeyed_no_op, obeyed_jump}
+use Rattle.machine.proofs.StepLaws.{obeyed, obeyed_no_op}
 use Rattle.machine.proofs.does.Goals as goal
 
 pub returns-in-SetMode : goal.returns-in-SetMode
 returns-in-SetMode c = obeyed (given (plain _)) _ _ c.in-SetMode.is refl c.set_mode.ensures c.passed.ensures
-
-pub returns-in-Jump : goal.returns-in-Jump
-returns-in-Jump c = obeyed_jump (given (plain _)) _ _ c.in-Jump.is c.jump.ensures
 
 pub returns-in-NoOp : goal.returns-in-NoOp
 returns-in-NoOp c = obeyed_no_op (given (plain _)) _ _ c.in-NoOp.is c.passed-in-NoOp.ensures

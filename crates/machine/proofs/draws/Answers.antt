@@ -5,21 +5,6 @@ use Rattle.machine.specs.Rest.{Drawable}
 use Rattle.machine.proofs.StepLaws.{one_done, two_done, characters_done, long_alone, absolute_alone}
 use Rattle.machine.proofs.draws.Goals as goal
 
-pub absolute_point-requires : goal.absolute_point-requires
-absolute_point-requires c = let h = c.requires in (h.0, h.1, subst (Drawable _) c.in-AbsolutePoint.is h.3)
-
-pub graph_x-requires : goal.graph_x-requires
-graph_x-requires c = let h = c.requires in (h.0, h.1, subst (Drawable _) c.in-GraphX.is h.3)
-
-pub graph_y-requires : goal.graph_y-requires
-graph_y-requires c = let h = c.requires in (h.0, h.1, subst (Drawable _) c.in-GraphY.is h.3)
-
-pub characters-requires : goal.characters-requires
-characters-requires c =
-    let h = c.requires in
-    let w = subst (Drawable _) c.in-Characters.is h.3 in
-    (h.0, h.1, w.1, w.2, h.2)
-
 pub returns-in-ShortVector : goal.returns-in-ShortVector
 returns-in-ShortVector c =
     one_done _ (given (lending _ _)) _ _ _ _ {it' = ShortVector _ _} c.in-ShortVector.is refl refl c.vector_by.ensures
@@ -44,4 +29,4 @@ returns-in-RelativePoint c =
 
 pub returns-in-Characters : goal.returns-in-Characters
 returns-in-Characters c =
-    characters_done _ (given (lending _ _)) _ _ _ _ c.in-Characters.is (subst (Drawable c.args.lit) c.in-Characters.is c.requires.3) c.characters.ensures
+    characters_done _ (given (lending _ _)) _ _ _ _ c.in-Characters.is (subst (Drawable c.args.lit) c.in-Characters.is c.requires) c.characters.ensures

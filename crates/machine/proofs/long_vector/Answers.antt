@@ -4,9 +4,10 @@ use Rattle.definition.specs.declared.Item.TheVariants.{LongVector}
 use Rattle.machine.proofs.StepLaws.{long_done, item_turned}
 use Rattle.machine.proofs.long_vector.Goals as goal
 
-pub returns-in-Taken : goal.returns-in-Taken
-returns-in-Taken c = long_done (given (plain _)) _ _ _ c.second_word.ensures c.in-Taken.is _ c.long.ensures c.vector_by.ensures
+pub returns-in-Ok : goal.returns-in-Ok
+returns-in-Ok c =
+    rw (← c.m.view_is) (long_done (given (plain _)) c.m.inside.machine _ _ c.second_word.ensures c.in-Ok.is _ c.long.ensures (rw (← c.m.view_is) at c.vector_by.ensures))
 
-pub returns-in-Turned : goal.returns-in-Turned
-returns-in-Turned c =
-    item_turned (given (plain _)) _ _ _ c.second_word.ensures (LongVector _) refl c.in-Turned.is c.refused.ensures
+pub returns-in-Err : goal.returns-in-Err
+returns-in-Err c =
+    rw (← c.m.view_is) (item_turned (given (plain _)) c.m.inside.machine _ _ c.second_word.ensures (LongVector _) refl c.in-Err.is c.refused_for.ensures)

@@ -1,35 +1,19 @@
-use mathlib.Core.Path.{refl, sym, ◌∙◌}
 use native.Mathlib.Omega.{arith}
 use Rattle.definition.specs.BuiltIn.{built_in}
+use Rattle.definition.specs.Characters.{chosen}
 use Rattle.run.proofs.RunLaws.{gone_on}
 use Rattle.run.proofs.go_on.Goals as goal
 
-pub walk-rest-requires : goal.walk-rest-requires
-unfolding built_in
-walk-rest-requires c =
+-- given, so that budget_anew is refused for the counts
+pub add-requires : goal.add-requires
+add-requires c =
     let h = c.requires in
-    let w = h.4 in
-    (h.0, h.1, omega (arith, h.2, w), (h.3, λ _. refl))
-
-pub overflow_add-result : goal.overflow_add-result
-overflow_add-result c =
-    let h = c.requires in
-    omega (arith, h.2, h.4, c.walk-rest.ensures.counts)
-
-pub overflow_add-result-2 : goal.overflow_add-result-2
-overflow_add-result-2 c =
-    let h = c.requires in
-    omega (arith, h.2, h.4, c.walk-rest.ensures.counts)
-
-pub overflow_add-result-3 : goal.overflow_add-result-3
-overflow_add-result-3 c =
-    let h = c.requires in
-    omega (arith, h.2, h.4, c.walk-rest.ensures.counts)
+    let w = c.walk-rest.ensures.counts in
+    (omega (arith, h.1, h.2, w), omega (arith, h.1, h.2, w), omega (arith, h.1, h.2, w))
 
 -- the built-in set is there, and so no step is put off
 pub returns : goal.returns
-unfolding built_in
+unfolding built_in chosen
 returns c =
-    let h = c.requires in
     let w = c.walk-rest.ensures in
-    gone_on _ _ _ _ _ (w.done (λ q. absurd (omega (arith, sym (w.off q).0 ∙ h.3))))
+    rw c.add.ensures (gone_on _ _ _ _ _ (w.done (λ q. absurd (omega (arith, (w.off q).0)))))

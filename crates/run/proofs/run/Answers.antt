@@ -1,20 +1,11 @@
-use mathlib.Core.Path.{ap, ◌∙◌}
-use Rattle.definition.specs.Calls.{answered}
-use Rattle.run.proofs.RunLaws.{serves_lent}
+use Rattle.run.proofs.RunLaws.{resumed}
 use Rattle.run.proofs.run.Goals as goal
 
-pub walk-first-requires : goal.walk-first-requires
-walk-first-requires c = let h = c.requires in (h.0, h.1, h.2, serves_lent _ h.3)
-
 pub go_on-requires : goal.go_on-requires
-go_on-requires c =
-    let h = c.requires in
-    let w = c.walk-first.ensures in
-    let off = w.off c.if-first.true in
-    (c.walk-first.auto.image ∙ h.0, off.1, h.2, h.3, w.counts)
+go_on-requires c = let w = c.walk-first.ensures in ((w.off c.if-first.true).1, c.requires, w.counts)
 
 pub returns-then-first : goal.returns-then-first
-returns-then-first c = c.go_on.ensures ∙ ap answered (c.walk-first.ensures.off c.if-first.true).2
+returns-then-first c = let off = c.walk-first.ensures.off c.if-first.true in resumed _ _ _ _ off.0 c.go_on.ensures off.2
 
 pub returns : goal.returns
 returns c = c.walk-first.ensures.done c.if-first.false

@@ -1,20 +1,14 @@
 use borrow.Author.Rules.{rules}
+use mathlib.Core.Path.{◌∙◌, ap}
 use mir.Syntax.{w32}
 use mir.Val.{SFits}
-use Rattle.units.proofs.UnitLaws.{widens, below_range, not_below_range}
+use lib.IntN.{ℤ}
+use Rattle.definition.specs.Units.{units}
+use Rattle.definition.specs.Machine.{in_range}
+use Rattle.units.proofs.UnitLaws.{widened}
 use Rattle.units.proofs.in_range.Goals as goal
-
-pub overflow_cast-n : goal.overflow_cast-n
-overflow_cast-n c =
-    let fu : SFits w32 c.args.u.0 = search rules in
-    widens _ fu
-
-pub returns-then-n-lt-LOWEST : goal.returns-then-n-lt-LOWEST
-returns-then-n-lt-LOWEST c =
-    let fu : SFits w32 c.args.u.0 = search rules in
-    below_range _ fu c.if-n-lt-LOWEST.true
 
 pub returns : goal.returns
 returns c =
     let fu : SFits w32 c.args.u.0 = search rules in
-    not_below_range _ fu c.if-n-lt-LOWEST.false
+    c.within.ensures ∙ ap (λ (z : ℤ). in_range (units z)) (widened c.args.u fu c.from.ensures)

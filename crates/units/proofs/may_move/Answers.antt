@@ -1,33 +1,13 @@
 use borrow.Author.Rules.{rules}
 use mir.Syntax.{w32}
 use mir.Val.{SFits}
-use Rattle.units.proofs.UnitLaws.{widens, sum_fits, sum_below, sum_not_below}
+use mathlib.Core.Path.{◌∙◌, ap}
+use Rattle.definition.specs.Machine.{in_range}
+use Rattle.units.proofs.UnitLaws.{sum_is}
 use Rattle.units.proofs.may_move.Goals as goal
-
-pub overflow_cast-from : goal.overflow_cast-from
-overflow_cast-from c =
-    let fu : SFits w32 c.args.u.0 = search rules in
-    widens _ fu
-
-pub overflow_cast-distance : goal.overflow_cast-distance
-overflow_cast-distance c =
-    let fb : SFits w32 c.args.by.0 = search rules in
-    widens _ fb
-
-pub overflow_add-sum : goal.overflow_add-sum
-overflow_add-sum c =
-    let fu : SFits w32 c.args.u.0 = search rules in
-    let fb : SFits w32 c.args.by.0 = search rules in
-    sum_fits _ _ fu fb
-
-pub returns-then-sum-lt-LOWEST : goal.returns-then-sum-lt-LOWEST
-returns-then-sum-lt-LOWEST c =
-    let fu : SFits w32 c.args.u.0 = search rules in
-    let fb : SFits w32 c.args.by.0 = search rules in
-    sum_below _ _ fu fb c.if-sum-lt-LOWEST.true
 
 pub returns : goal.returns
 returns c =
     let fu : SFits w32 c.args.u.0 = search rules in
     let fb : SFits w32 c.args.by.0 = search rules in
-    sum_not_below _ _ fu fb c.if-sum-lt-LOWEST.false
+    c.within.ensures ∙ ap in_range (sum_is _ _ fu fb c.from.ensures c.from-2.ensures)
