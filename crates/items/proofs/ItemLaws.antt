@@ -1,16 +1,10 @@
 -- Laws of items: where a coordinate is led, what is lit, and the step of an item that is refused or goes.
-use Prim.Native.Nat.{ℕ, ◌<◌}
+use Prim.Native.Nat.{ℕ}
 use mathlib.Core.Bool.{Bool, true, false, ◌&&◌}
 use mathlib.Core.Path.{◌≡◌, refl, sym, ap, ◌∙◌}
 use mathlib.Core.List.{List, [], ◌∷◌}
 use mathlib.Core.Logic.{◌⊎◌}
-use native.Mathlib.Omega.{arith}
-use lib.IntN.{pos}
-use mir.Syntax.{w32}
-use mir.Val.{to_z}
-use mir.Facts.{to_z_pos}
 use Rattle.std.specs.Prelude.{Option, Some, None}
-use Rattle.definition.specs.Units.{units}
 use Rattle.definition.specs.Image.{Left, left, square, pixel_at, ink_shape, ink_pen, stores}
 use Rattle.definition.specs.Vector.{vector}
 use Rattle.definition.specs.Machine.{ink_of, in_range}
@@ -39,10 +33,6 @@ module _ (u by : Units) {got : Option Units} (e : got ≡ moved_to u by) where
 
   pub move_leaves : got ≡ None → leaves u (Move by) ≡ true
   move_leaves o = rw (moved_out u by (sym e ∙ o))
-
--- the increment, as the machine's signed number
-pub by_increment : (n : ℕ) → n < 256 → units (to_z w32 n) ≡ units (pos n)
-by_increment n h = ap units (to_z_pos w32 (omega arith))
 
 -- ---- what is lit
 module _ (m : Machine) (lit : Bool) (im : List ℕ) {on : Bool} (e : on ≡ lit && m.write) where
