@@ -132,7 +132,7 @@ pub fn course_of(x: u32, y: u32, x1: u32, y1: u32) -> SoundCourse
 
 // ---- which pixels are in the field
 
-// The first pixel at which the shorter axis has made k steps, or n + 1. A number and no Option: both callers take the smaller or the larger of it.
+// The first pixel at which the shorter axis has made k steps, or n + 1. A number and no Option: of both calls the smaller or the larger is taken.
 #[tactic(auto, using(crate::proofs::GoneLaws::product_fits))]
 fn arrives(n: u32, m: u32, half: u32, k: u32) -> u32
     requires { (0 < n) × (n < 4096) × (m ≤ n) × (half ≤ n) }

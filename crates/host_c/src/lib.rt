@@ -1,5 +1,5 @@
-// The calls of crates/host for a host program in C, which include/roadparsnip.h declares: each is that of the same name, with the same clause,
-// as `extern "C"` has to be in a crate of its own.
+// The calls of crates/host for a host program in C, which include/roadparsnip.h declares: each is that of the same name, with the same clause.
+// C calls these, and crates of Rattle call those of host.
 #![tactic(auto)]
 
 ghost use Rattle.definition.specs.Calls.{lending};
