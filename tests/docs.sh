@@ -16,7 +16,7 @@ quoted docs/PROMISES.md >"$work/promised"
 for page in README.md docs/*.md; do
     case $page in
     # the first is read more strictly; the others tell of code that was
-    docs/DEFINITION.md | docs/PORT.md | docs/DESIGN-PASS.md) ;;
+    docs/DEFINITION.md | docs/PORT.md | docs/DESIGN-PASS.md | docs/LOOK-BACK.md) ;;
     *) quoted "$page" ;;
     esac
 done | sort -u >"$work/told"

@@ -1,6 +1,6 @@
 #!/bin/sh
 # The library in C: ./build, then examples/host.c and the programs of docs/HOST.md, compiled with every warning an error, against what they should print;
-# the names that the library has, and that one function lays out the built-in characters; that the interface number rises when the header changes; that what
+# the names that the library has, and that no function lays out the built-in characters; that the interface number rises when the header changes; that what
 # C calls states what crates/host does; and ./build as it is called with something wrong.
 set -eu
 cd "$(dirname "$0")/.."

@@ -2,22 +2,22 @@
 use Rattle.std.proofs.Common.{◌≡◌, ℕ, ◌+◌, ◌-◌, ◌*◌, ◌^◌, ◌<◌, ◌≤◌, Bool, true, false, leb, refl, ap, arith, le-leb, leb-false, leb-true}
 use borrow.Author.Tests.{lt-leb}
 use Rattle.definition.specs.Choice.{pick}
-use Rattle.course.specs.Course.{axis_of, half_of, along, course_of, visible, part, number, Straight, Sound}
+use Rattle.course.specs.Course.{axis_of, along, course_of, visible, part, number, Straight, Sound}
 use Rattle.course.specs.declared.Axis.{Axis}
 use Rattle.course.proofs.GoneLaws.{gone_first}
 use Rattle.course.proofs.FieldLaws.{visible_is}
 
 -- ---- one axis
-axis_up : (w s e : ℕ) → s ≤ e → axis_of w s e ≡ record { from = s; size = e - s; down = false; weight = w; stride = w }
+axis_up : (w s e : ℕ) → s ≤ e → axis_of w s e ≡ record { from = s; size = e - s; down = 0; weight = w; stride = w }
 unfolding axis_of
 axis_up w s e l = rw (le-leb s e l)
 
-axis_down : (w s e : ℕ) → e < s → axis_of w s e ≡ record { from = 4607 - s; size = s - e; down = true; weight = w; stride = 2 ^ 64 - w }
+axis_down : (w s e : ℕ) → e < s → axis_of w s e ≡ record { from = 4607 - s; size = s - e; down = 1; weight = w; stride = 2 ^ 64 - w }
 unfolding axis_of
 axis_down w s e l = rw (lt-leb s e l)
 
 -- what holds of an axis in either direction
-pub either : (w s e : ℕ) (P : Axis → Type 0) → (s ≤ e → P (record { from = s; size = e - s; down = false; weight = w; stride = w })) → (e < s → P (record { from = 4607 - s; size = s - e; down = true; weight = w; stride = 2 ^ 64 - w })) → P (axis_of w s e)
+pub either : (w s e : ℕ) (P : Axis → Type 0) → (s ≤ e → P (record { from = s; size = e - s; down = 0; weight = w; stride = w })) → (e < s → P (record { from = 4607 - s; size = s - e; down = 1; weight = w; stride = 2 ^ 64 - w })) → P (axis_of w s e)
 either w s e P up down = go (leb s e) refl
   where
     go : (t : Bool) → leb s e ≡ t → P (axis_of w s e)
@@ -25,8 +25,8 @@ either w s e P up down = go (leb s e) refl
     go false k = let l = leb-false s e k in rw (axis_down w s e l) (down l)
 
 module _ (w s e : ℕ) where
-  pub down_some : {x : Axis} → x ≡ axis_of w s e → x.down ≡ true → 0 < x.size
-  down_some k = rw k (either w s e (λ x. x.down ≡ true → 0 < x.size) (λ l t. cc) (λ l t. omega arith))
+  pub down_least : {x : Axis} (n : ℕ) → x ≡ axis_of w s e → x.size ≤ n → x.down ≤ n
+  down_least n k = rw k (either w s e (λ x. x.size ≤ n → x.down ≤ n) (λ l h. omega arith) (λ l h. omega arith))
 
   weight_is : (axis_of w s e).weight ≡ w
   weight_is = either w s e (λ x. x.weight ≡ w) (λ l. refl) (λ l. refl)
@@ -49,13 +49,6 @@ module _ (w s e : ℕ) where
       down l h u = let k : s ≡ 2048 + (2559 - (4607 - s + 0)) = omega arith in let q = ap (λ (t : ℕ). t * w) k in omega arith
 
 -- ---- both
-pub half_most : (l s : Axis) → half_of l s ≤ l.size
-half_most l s = go s.down
-  where
-    go : (t : Bool) → pick t (l.size - 1) l.size ≤ l.size
-    go true = omega arith
-    go false = omega arith
-
 module _ (x y x1 y1 : ℕ) {h v : Axis} {p : ℕ} (eh : h ≡ axis_of 1 x x1) (ev : v ≡ axis_of 512 y y1) (ep : p ≡ 512 * y + x) where
   pub course_across : v.size ≤ h.size → along p h v ≡ course_of x y x1 y1
   unfolding course_of
@@ -81,13 +74,13 @@ module _ (v w a a1 b b1 : ℕ) {p : ℕ} (ep : p ≡ a * v + b * w) (e : v + w �
         weights = let t = weight_is v a a1 in let u = weight_is w b b1 in omega arith;
         few = size_few v a a1 ha ha1;
         fewer = l;
-        half = half_most long short;
+        half = omega arith;
         start = start;
       }
     where
       start : 0 < long.size → visible (along p long short) 0 ≡ true → p ≡ 1050624 + number (along p long short) 0
       start some z =
-          let g = gone_first long.size short.size (half_of long short) some (half_most long short) in
+          let g = gone_first long.size short.size (long.size - short.down) some (omega arith) in
           let r = rw g at (visible_is (along p long short) 0 z) in
           let i = part_first v a a1 (omega arith) (omega arith) in
           let j = part_first w b b1 (omega arith) (omega arith) in

@@ -1,5 +1,5 @@
 -- The mark of a pixel: what it is at the start, and that a step of the code comes from it to the next one's.
-use Rattle.std.proofs.Common.{◌≡◌, ℕ, zero, suc, ◌+◌, ◌-◌, ◌*◌, ◌%◌, ◌^◌, ◌<◌, ◌≤◌, Bool, true, false, ltb, refl, ap, ◌∙◌, add-zero, mul-le-mul_right, arith, ltb-false, ltb-true, le-ltb, lt-ltb}
+use Rattle.std.proofs.Common.{◌≡◌, ℕ, zero, suc, ◌+◌, ◌-◌, ◌*◌, ◌%◌, ◌^◌, ◌<◌, ◌≤◌, Bool, true, false, eqb, ltb, refl, ap, ◌∙◌, add-zero, mul-le-mul_right, arith, ltb-false, ltb-true, le-ltb, lt-ltb}
 use lib.Arith.{digits_mod}
 use Rattle.definition.specs.Choice.{pick}
 use Rattle.course.specs.Course.{above, gone_at, carried_at, visible, part, number, mark, paces_of, stepped, marks, Straight, Sound, Spans}
@@ -12,27 +12,27 @@ use Rattle.course.proofs.FieldLaws.{visible_is}
 module _ (x : Axis) (h : Straight x) (k : ℕ) (l : 2048 ≤ x.from + k) (u : x.from + k < 2560) where
   part_most : part x k ≤ 511 * x.weight
   unfolding part
-  part_most = go x.down
+  part_most = go (eqb x.down 0)
     where
-      go : (t : Bool) → pick t (2559 - (x.from + k)) (x.from + k - 2048) * x.weight ≤ 511 * x.weight
-      go true = let r : 2559 - (x.from + k) ≤ 511 = omega arith in mul-le-mul_right x.weight r
-      go false = let r : x.from + k - 2048 ≤ 511 = omega arith in mul-le-mul_right x.weight r
+      go : (t : Bool) → pick t (x.from + k - 2048) (2559 - (x.from + k)) * x.weight ≤ 511 * x.weight
+      go true = let r : x.from + k - 2048 ≤ 511 = omega arith in mul-le-mul_right x.weight r
+      go false = let r : 2559 - (x.from + k) ≤ 511 = omega arith in mul-le-mul_right x.weight r
 
   -- a step of an axis, beside all else that a mark has
   part_on : (z : ℕ) → z < 2 ^ 60 → x.from + k + 1 < 2560 → (part x k + z + x.stride) % 2 ^ 64 ≡ part x (k + 1) + z
   unfolding part
-  part_on z hz u' = rw h.stride (go x.down)
+  part_on z hz u' = rw h.stride (go (eqb x.down 0))
     where
-      go : (t : Bool) → (pick t (2559 - (x.from + k)) (x.from + k - 2048) * x.weight + z + pick t (2 ^ 64 - x.weight) x.weight) % 2 ^ 64 ≡ pick t (2559 - (x.from + (k + 1))) (x.from + (k + 1) - 2048) * x.weight + z
+      go : (t : Bool) → (pick t (x.from + k - 2048) (2559 - (x.from + k)) * x.weight + z + pick t x.weight (2 ^ 64 - x.weight)) % 2 ^ 64 ≡ pick t (x.from + (k + 1) - 2048) (2559 - (x.from + (k + 1))) * x.weight + z
       go true =
-          let e : 2559 - (x.from + k) ≡ 2559 - (x.from + (k + 1)) + 1 = omega arith in
-          let r : 2559 - (x.from + (k + 1)) ≤ 511 = omega arith in
+          let e : x.from + (k + 1) - 2048 ≡ x.from + k - 2048 + 1 = omega arith in
+          let r : x.from + k - 2048 ≤ 511 = omega arith in
           let m = mul-le-mul_right x.weight r in
           let w = h.weight in
           rw e (omega arith)
       go false =
-          let e : x.from + (k + 1) - 2048 ≡ x.from + k - 2048 + 1 = omega arith in
-          let r : x.from + k - 2048 ≤ 511 = omega arith in
+          let e : 2559 - (x.from + k) ≡ 2559 - (x.from + (k + 1)) + 1 = omega arith in
+          let r : 2559 - (x.from + (k + 1)) ≤ 511 = omega arith in
           let m = mul-le-mul_right x.weight r in
           let w = h.weight in
           rw e (omega arith)

@@ -1,5 +1,5 @@
 -- The course of a vector, in natural numbers: coordinates are counted from -2,048, so that the field is from 2,048 to 2,559 on each axis.
-use Rattle.std.specs.Prelude.{◌≡◌, ℕ, zero, suc, ◌+◌, ◌-◌, ◌*◌, ◌/◌, ◌%◌, ◌^◌, ◌<◌, ◌≤◌, Bool, true, false, ◌&&◌, nat_le, nat_lt}
+use Rattle.std.specs.Prelude.{◌≡◌, ℕ, zero, suc, ◌+◌, ◌-◌, ◌*◌, ◌/◌, ◌%◌, ◌^◌, ◌<◌, ◌≤◌, Bool, true, false, ◌&&◌, ◌==◌, nat_le, nat_lt}
 use Rattle.definition.specs.Choice.{pick}
 use Rattle.course.specs.declared.Axis.{Axis}
 use Rattle.course.specs.declared.Course.{Course}
@@ -10,12 +10,12 @@ use Rattle.course.specs.declared.Paces.{Paces}
 unfoldable pub axis_of : ℕ → ℕ → ℕ → Axis
 axis_of w s e =
     pick (nat_le s e)
-    (record { from = s; size = e - s; down = false; weight = w; stride = w })
-    (record { from = 4607 - s; size = s - e; down = true; weight = w; stride = 2 ^ 64 - w })
+    (record { from = s; size = e - s; down = 0; weight = w; stride = w })
+    (record { from = 4607 - s; size = s - e; down = 1; weight = w; stride = 2 ^ 64 - w })
 
 -- half of 2n is carried at the start, and one less where the shorter axis goes down, so that a half is rounded up there too
 abbrev pub half_of : Axis → Axis → ℕ
-half_of l s = pick s.down (l.size - 1) l.size
+half_of l s = l.size - s.down
 
 abbrev pub along : ℕ → Axis → Axis → Course
 along p l s = record { long = l; short = s; half = half_of l s; place = p }
@@ -50,7 +50,7 @@ visible c i = within (c.long.from + i) && within (c.short.from + gone_at c i)
 
 -- its number: 512 y + x, counted in the field
 unfoldable pub part : Axis → ℕ → ℕ
-part x k = pick x.down (2559 - (x.from + k)) (x.from + k - 2048) * x.weight
+part x k = pick (x.down == 0) (x.from + k - 2048) (2559 - (x.from + k)) * x.weight
 
 abbrev pub number : Course → ℕ → ℕ
 number c i = part c.long i + part c.short (gone_at c i)
@@ -83,7 +83,7 @@ marks p m (suc i) = stepped p (marks p m i)
 -- what holds of a course between coordinates below 4,096
 pub record Straight (x : Axis) : Type 0 where
   pub weight : x.weight ≤ 512
-  pub stride : x.stride ≡ pick x.down (2 ^ 64 - x.weight) x.weight
+  pub stride : x.stride ≡ pick (x.down == 0) x.weight (2 ^ 64 - x.weight)
 
 pub record Sound (c : Course) : Type 0 where
   pub long : Straight c.long

@@ -8,14 +8,14 @@ ghost use Rattle.course.specs.Course.{axis_of, along, course_of, visible, part, 
 // One axis of a vector.
 // from: where it starts, counted from the side that it comes from, so that the field is from 2,048 to 2,559 up and down
 // size: how many steps it makes
-// down: whether they go down
+// down: 1 where they go down, else 0
 // weight: what a step is in a pixel's number, 1 or 512
 // stride: that, up or down, as it is added modulo 2^64
 #[derive(Clone, Copy)]
 pub struct Axis {
     pub from: u32,
     pub size: u32,
-    pub down: bool,
+    pub down: u32,
     pub weight: usize,
     pub stride: usize,
 }
@@ -71,7 +71,7 @@ fn axis_of(start: u32, end: u32, weight: usize) -> Axis
         Axis {
             from: start,
             size: end - start,
-            down: false,
+            down: 0,
             weight,
             stride: weight,
         }
@@ -79,7 +79,7 @@ fn axis_of(start: u32, end: u32, weight: usize) -> Axis
         Axis {
             from: 4607 - start,
             size: start - end,
-            down: true,
+            down: 1,
             weight,
             stride: weight.wrapping_neg(),
         }
@@ -95,13 +95,13 @@ fn wide(n: u32) -> usize
 
 // What is carried at the start is one less where the shorter axis goes down.
 fn along(long: Axis, short: Axis, place: usize) -> Course
-    requires { (short.size ≤ long.size) × (short.down ≡ true → 0 < short.size) }
+    requires { short.down ≤ long.size }
     ensures { result ≡ along place long short }
 {
     Course {
         long,
         short,
-        half: if short.down { long.size - 1 } else { long.size },
+        half: long.size - short.down,
         place,
     }
 }
@@ -171,10 +171,10 @@ fn part(x: Axis, k: u32) -> usize
     requires { (x.weight ≤ 512) × (2048 ≤ x.from + k) × (x.from + k < 2560) }
     ensures { result ≡ part x k }
 {
-    let inside = if x.down {
-        2559 - (x.from + k)
-    } else {
+    let inside = if x.down == 0 {
         x.from + k - 2048
+    } else {
+        2559 - (x.from + k)
     };
     wide(inside) * x.weight
 }

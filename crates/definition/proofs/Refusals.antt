@@ -5,7 +5,9 @@ use mathlib.Core.Path.{◌≡◌, refl, sym, ap, ◌∙◌}
 use lib.ListN.{get_or}
 use Rattle.std.specs.Prelude.{Result, Ok, Err, is_ok, Option, Some, None}
 use Rattle.definition.specs.Refusal.{refusal_number, answer_of}
+use Rattle.definition.specs.Calls.{Started, Read, started_of, read_of}
 use Rattle.definition.proofs.Exactly.{apart}
+use Rattle.definition.specs.declared.Machine.{Machine}
 use Rattle.definition.specs.declared.Refusal.{Refusal}
 use Rattle.definition.specs.declared.Refusal.TheVariants.{BadImage, ShortFile, BadTag, BadCount, BadSegment, BadMachine, BadBudget, BadSet, BadInput, OddAddress, NoSegment, NoPlace, NotBuilt, NoModeSet, SecondWord, OutOfRange, NotRunning, Outside, BadCharacter}
 
@@ -70,17 +72,38 @@ named NotRunning = refl
 named Outside = refl
 named BadCharacter = refl
 
--- the result that a number stands for
-abbrev result_of : Option Refusal → Result (Unit {0}) Refusal
-result_of None = Ok tt
-result_of (Some why) = Err why
+-- the result that a number stands for, where one that is not refused is of that value
+abbrev result_of : {T : Type 0} → T → Option Refusal → Result T Refusal
+result_of v None = Ok v
+result_of v (Some why) = Err why
 
-known : (r : Result (Unit {0}) Refusal) → result_of (refusal_of (answer_of r)) ≡ r
+known : (r : Result (Unit {0}) Refusal) → result_of tt (refusal_of (answer_of r)) ≡ r
 known (Ok tt) = refl
-known (Err why) = ap result_of (named why)
+known (Err why) = ap (result_of tt) (named why)
 
 pub answers_differ : (r s : Result (Unit {0}) Refusal) → answer_of r ≡ answer_of s → r ≡ s
-answers_differ r s e = sym (known r) ∙ ap (λ (n : ℕ). result_of (refusal_of n)) e ∙ known s
+answers_differ r s e = sym (known r) ∙ ap (λ (n : ℕ). result_of tt (refusal_of n)) e ∙ known s
+
+-- and what a start answers and leaves, and what a reading answers, each stand for one result too
+abbrev start_of : Started → Result Machine Refusal
+start_of t = result_of t.machine (refusal_of t.answer)
+
+known_start : (m : Machine) (r : Result Machine Refusal) → start_of (started_of m r) ≡ r
+known_start m (Ok n) = refl
+known_start m (Err why) = ap (result_of m) (named why)
+
+pub starts_differ : (m : Machine) (r s : Result Machine Refusal) → started_of m r ≡ started_of m s → r ≡ s
+starts_differ m r s e = sym (known_start m r) ∙ ap start_of e ∙ known_start m s
+
+abbrev reading_of : Read → Result ℕ Refusal
+reading_of t = result_of t.digit (refusal_of t.answer)
+
+known_read : (r : Result ℕ Refusal) → reading_of (read_of r) ≡ r
+known_read (Ok digit) = refl
+known_read (Err why) = ap (result_of 0) (named why)
+
+pub reads_differ : (r s : Result ℕ Refusal) → read_of r ≡ read_of s → r ≡ s
+reads_differ r s e = sym (known_read r) ∙ ap reading_of e ∙ known_read s
 
 pub some_number : (why : Refusal) → refusal_number why ≡ 0 → ⊥
 some_number why e = apart (sym (ap is_ok (answers_differ (Err why) (Ok tt) e)))

@@ -8,7 +8,8 @@ use mathlib.Core.Logic.{◌⊎◌, ◌↔◌}
 use lib.ListN.{length, get_or}
 use lib.IntN.{ℤ, pos, nat_abs, ◌+ℤ◌, ◌-ℤ◌, ◌*ℤ◌}
 use lib.Signed.{◌≤ℤ◌, ◌<ℤ◌}
-use Rattle.std.specs.Prelude.{Ok}
+use Rattle.std.specs.Prelude.{Result, Ok}
+use Rattle.definition.specs.Refusal.{answer_of}
 use Rattle.definition.specs.Units.{units, pixels_of}
 use Rattle.definition.specs.Image.{Shape, square, image_bytes, blank, pixel_at, inside, stores, digit_at, Left, left}
 use Rattle.definition.specs.File.{tag, segments, offset, size, header, segment_of, place_of, fetch, number_in}
@@ -17,13 +18,15 @@ use Rattle.definition.specs.Vector.{longer, vector}
 use Rattle.definition.specs.Machine.{refusal_numbers, statuses, fresh, started_at, with_status, shape_of, pen_of}
 use Rattle.definition.specs.Step.{Given, first, second, refusal, step}
 use Rattle.definition.specs.Run.{State, begun, after, run}
-use Rattle.definition.specs.Calls.{Lent, Started, Read, plain, given, check_call, start_call, door_numbers, run_door, turned_away, run_call, step_call, clear_call, read_call}
+use Rattle.definition.specs.Calls.{Lent, Started, Read, plain, given, started_of, read_of, check_call, start_call, door_numbers, run_door, turned_away, run_call, step_call, clear_call, read_call}
 use Rattle.definition.specs.Plot.{words_in, plot_budget, ran_line, refused_line, plot_line}
 use Rattle.definition.specs.Promises.{PromiseCheck, PromiseFresh, PromiseStart, PromiseRun, PromiseStep, PromiseClear, PromiseRead}
 use Rattle.definition.specs.declared.Units.{Units}
 use Rattle.definition.specs.declared.Pixel.{Pixel}
 use Rattle.definition.specs.declared.Machine.{Machine}
 use Rattle.definition.specs.declared.Ran.{Ran}
+use Rattle.definition.specs.declared.Refusal.{Refusal}
+use Rattle.definition.proofs.Refusals as refusals
 use Rattle.demands.specs.Conditions.{Among, Head, Keeps, Accepted, SameHeader, SameWords, Fits, Lendable, Open, During, InField, On, Off, HasCell, NotBuilt, NoMode, BadCode, Pair, word, more, Begins, FetchRefused, MovesOut, Beyond, Stops, LatchIs}
 use Rattle.demands.specs.Ledger.{completed, changes, settled}
 use Rattle.demands.specs.Graphs.{AlongX, AlongY, weeks, of_lit, shown, Ready, plotted}
@@ -395,3 +398,16 @@ one_clear im p q = (ap (λ (o : Left ℕ). o.result) (p ∙ sym q), ap (λ (o : 
 
 pub one_read : (im : List ℕ) (p : Pixel) {r r' : Read} → PromiseRead im p r → PromiseRead im p r' → r ≡ r'
 one_read im p q q' = q ∙ sym q'
+
+-- ---- check, start, clear and read-pixel return a result: its promise allows one result, and not only one number
+pub one_check_result : (f : List ℕ) {r r' : Result (Unit {0}) Refusal} → PromiseCheck f (answer_of r) → PromiseCheck f (answer_of r') → r ≡ r'
+one_check_result f p q = refusals.answers_differ _ _ (one_check f p q)
+
+pub one_start_result : (m : Machine) (a : ℕ) {r r' : Result Machine Refusal} → PromiseStart m a (started_of m r) → PromiseStart m a (started_of m r') → r ≡ r'
+one_start_result m a p q = refusals.starts_differ m _ _ (one_start m a p q)
+
+pub one_clear_result : (im : List ℕ) {r r' : Result (Unit {0}) Refusal} {im' im'' : List ℕ} → PromiseClear im (answer_of r) im' → PromiseClear im (answer_of r') im'' → (r ≡ r') × (im' ≡ im'')
+one_clear_result im p q = let one = one_clear im p q in (refusals.answers_differ _ _ one.0, one.1)
+
+pub one_read_result : (im : List ℕ) (p : Pixel) {r r' : Result ℕ Refusal} → PromiseRead im p (read_of r) → PromiseRead im p (read_of r') → r ≡ r'
+one_read_result im p q q' = refusals.reads_differ _ _ (one_read im p q q')

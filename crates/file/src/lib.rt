@@ -2,7 +2,7 @@
 #![tactic(auto)]
 
 ghost use Rattle.std.specs.Prelude.{◌≡◌, ◌<◌, get_or, length};
-ghost use Rattle.definition.specs.File.{segments, offset, size, keeps, keep_below, fetch};
+ghost use Rattle.definition.specs.File.{segments, offset, size, keeps, keep_below, fetch, number_in};
 ghost use Rattle.definition.specs.Refusal.{answer_of};
 ghost use Rattle.definition.specs.Calls.{check_call};
 
@@ -85,4 +85,14 @@ pub fn fetch(words: &[u16], address: u16) -> Result<u16, Unfetched>
     }
     let offset = word_at(words, 2 + 2 * segment);
     Ok(words.get(offset + place).copied().unwrap_or(0))
+}
+
+// The number of what a fetch answered: 0 where it is a word.
+pub fn number_in(got: Result<u16, Unfetched>) -> u8
+    ensures { result ≡ number_in got }
+{
+    match got {
+        Ok(_) => 0,
+        Err(why) => u8::from(Refusal::from(why)),
+    }
 }

@@ -23,6 +23,7 @@
 #![tactic(auto)]
 
 use numbers::{HostMachine, HostRan};
+use std::fmt::Display;
 use std::io;
 use std::io::{Input, Read};
 
@@ -88,21 +89,32 @@ fn started(m: HostMachine, address: u16) -> HostRan {
 }
 
 // ---- the line
-fn write_line(rt: &impl Print, ran: HostRan, digit: u8, digest: u32) -> io::Result<()> {
-    let m = ran.machine;
-    print!(rt;
-        "{} {} {} {} ",
-        ran.answer, ran.steps, ran.words, ran.stores
-    )?;
-    print!(rt; "{} {} {} ", m.counter, m.x, m.y)?;
-    print!(rt;
-        "{} {} {} {} {} {} ",
-        m.mode, m.value, m.write, m.latch, m.increment, m.status
-    )?;
-    println!(rt; "{digit} {digest}")
+// A number that is not written is left out, and so is the space after it.
+fn write_number(rt: &impl Print, n: impl Display + Copy) {
+    let _ = print!(rt; "{n} ");
 }
 
-// ---- one case, and all; none at the end of the input, where a case is cut or too large, and where a line was not written
+// Answers as its end was written.
+fn write_line(rt: &impl Print, ran: HostRan, digit: u8, digest: u32) -> io::Result<()> {
+    write_number(rt, ran.answer);
+    write_number(rt, ran.steps);
+    write_number(rt, ran.words);
+    write_number(rt, ran.stores);
+    let m = ran.machine;
+    write_number(rt, m.counter);
+    write_number(rt, m.x);
+    write_number(rt, m.y);
+    write_number(rt, m.mode);
+    write_number(rt, m.value);
+    write_number(rt, m.write);
+    write_number(rt, m.latch);
+    write_number(rt, m.increment);
+    write_number(rt, m.status);
+    write_number(rt, digit);
+    println!(rt; "{digest}")
+}
+
+// ---- one case, and all; none at the end of the input, where a case is cut or too large, and where the end of a line was not written
 fn one_case(
     rt: &impl Print,
     from: &mut impl Read,

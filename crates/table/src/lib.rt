@@ -2,8 +2,9 @@
 // many differ. What cannot be written is left out.
 #![tactic(auto)]
 
-ghost use Rattle.std.specs.Prelude.{◌≡◌, ◌+◌, ◌%◌, ◌^◌, if◌then◌else◌};
+ghost use Rattle.std.specs.Prelude.{◌≡◌, ⊤, ◌+◌, ◌%◌, ◌^◌, if◌then◌else◌};
 
+use std::alloc::AllocError;
 use std::fmt::Display;
 
 // The lines so far, and those of them that differ.
@@ -12,6 +13,18 @@ pub struct Table<'a, P: Print> {
     pub lines: u32,
     pub differ: u32,
 }
+
+impl<P: Print> Clone for Table<'_, P> {
+    ghost is_clone = { λ x y. y ≡ x };
+
+    ghost is_infallible = { λ _. ⊤ };
+
+    fn clone(&self) -> Result<Self, AllocError> {
+        Ok(*self)
+    }
+}
+
+impl<P: Print> Copy for Table<'_, P> {}
 
 fn say(rt: &impl Print, text: &[u8]) {
     let _ = rt.write_all(text);
@@ -44,7 +57,9 @@ impl<P: Print> Table<'_, P> {
         ensures differ { self.new.differ ≡ (if T.eq got expected then self.old.differ else (self.old.differ + 1) % 2 ^ 32) }
     {
         case(self.out, name);
-        let _ = println!(self.out; "{got:>11}{expected:>11}");
+        let _ = print!(self.out; "{got:>11}");
+        let _ = print!(self.out; "{expected:>11}");
+        say(self.out, b"\n");
         self.lines = self.lines.wrapping_add(1);
         if got != expected {
             self.differ = self.differ.wrapping_add(1);

@@ -12,7 +12,7 @@ use definition::Units;
 use itoa::{Buffer, Integer};
 use line::Line;
 
-// A coordinate without its sign. No line needs it, as itoa prints the sign; it was public with this promise, and the edit sign_left_out prints by it.
+// A coordinate without its sign. No line needs it, as itoa prints the sign; it was public with this promise.
 pub fn size(u: Units) -> u64
     ensures { result ≡ nat_abs u.0 }
 {

@@ -16,10 +16,10 @@ use Rattle.definition.specs.Vector.{apart_x, apart_y, longer, by_one, rounded, n
 use Rattle.definition.specs.declared.Pixel.{Pixel}
 use Rattle.definition.proofs.Plain.{both_true}
 use Rattle.definition.proofs.VectorLaws.{top, top_parts}
-use Rattle.course.specs.Course.{axis_of, half_of, along, course_of, gone, gone_at, within, visible, part, number}
+use Rattle.course.specs.Course.{axis_of, along, course_of, gone, gone_at, within, visible, part, number}
 use Rattle.course.specs.declared.Axis.{Axis}
 use Rattle.course.specs.declared.Course.{Course}
-use Rattle.course.proofs.AxisLaws.{either, half_most, sound}
+use Rattle.course.proofs.AxisLaws.{either, sound}
 use Rattle.course.proofs.FieldLaws.{within_is, within_cases}
 use Rattle.course.proofs.GoneLaws.{gone_most}
 use Rattle.vector.proofs.CoordinateLaws.{by_up, by_down}
@@ -80,11 +80,11 @@ module _ (s t : ℤ) {r e : ℕ} (pr : pos r ≡ s +ℤ pos 2048) (pe : pos e �
   size_is : (axis_of w r e).size ≡ nat_abs d
   size_is = either w r e (λ x. x.size ≡ nat_abs d) size_up size_down
 
-  rounded_is : (n i : ℕ) → 0 < n → rounded s d n i ≡ by_one s d (gone n (axis_of w r e).size (pick (axis_of w r e).down (n - 1) n) i)
-  rounded_is n i h = either w r e (λ x. rounded s d n i ≡ by_one s d (gone n x.size (pick x.down (n - 1) n) i)) up down
+  rounded_is : (n i : ℕ) → 0 < n → rounded s d n i ≡ by_one s d (gone n (axis_of w r e).size (n - (axis_of w r e).down) i)
+  rounded_is n i h = either w r e (λ x. rounded s d n i ≡ by_one s d (gone n x.size (n - x.down) i)) up down
     where
-      up : r ≤ e → rounded s d n i ≡ by_one s d (gone n (e - r) n i)
-      up l = rw (size_up l, by_up s d (gone n (nat_abs d) n i) (rises l)) (rounded_up s d n i h (rises l))
+      up : r ≤ e → rounded s d n i ≡ by_one s d (gone n (e - r) (n - 0) i)
+      up l = let z : n - 0 ≡ n = omega arith in rw (size_up l, z, by_up s d (gone n (nat_abs d) n i) (rises l)) (rounded_up s d n i h (rises l))
 
       down : e < r → rounded s d n i ≡ by_one s d (gone n (r - e) (n - 1) i)
       down l = rw (size_down l, by_down s d (gone n (nat_abs d) (n - 1) i) (falls l)) (rounded_down s d n i h (falls l))
@@ -138,7 +138,7 @@ module _ (s t s' t' : ℤ) {r e r' e' : ℕ} (pr : pos r ≡ s +ℤ pos 2048) (p
 
   module _ (some : 0 < long.size) (less : short.size ≤ long.size) (few : i ≤ long.size) where
     few_aside : gone_at course i ≤ short.size
-    few_aside = gone_most long.size short.size (half_of long short) i some (omega (arith, half_most long short)) few
+    few_aside = gone_most long.size short.size (long.size - short.down) i some (omega arith) few
 
     seen_both : visible course i ≡ (below 512 ahead && below 512 aside)
     unfolding visible

@@ -1,12 +1,12 @@
 use Rattle.std.proofs.Common.{◌∙◌, arith}
-use Rattle.course.proofs.AxisLaws.{down_some, course_across, course_upright}
+use Rattle.course.proofs.AxisLaws.{down_least, course_across, course_upright}
 use Rattle.course.proofs.between.Goals as goal
 
 pub along-requires : goal.along-requires
-along-requires c = (c.if-upright-across.true, down_some _ _ _ c.axis_of-upright.ensures)
+along-requires c = down_least _ _ _ _ c.axis_of-upright.ensures c.if-upright-across.true
 
 pub along-requires-else-upright-across : goal.along-requires-else-upright-across
-along-requires-else-upright-across c = (omega (arith, c.if-upright-across.false), down_some _ _ _ c.axis_of-across.ensures)
+along-requires-else-upright-across c = down_least _ _ _ _ c.axis_of-across.ensures (omega (arith, c.if-upright-across.false))
 
 pub returns-then-upright-across : goal.returns-then-upright-across
 returns-then-upright-across c =
